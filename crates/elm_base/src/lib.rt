@@ -7,16 +7,25 @@ mod event;
 mod fault;
 mod memory;
 mod name;
+pub mod native;
 mod steps;
+mod term;
 mod token;
+mod tree;
 
 pub use command::{Command, CommandRefusal};
 pub use event::{Event, PortType, PortValue};
 pub use fault::{FaultKind, ProjectFault};
 pub use memory::{Halt, NoMemory};
 pub use name::Name;
+pub use native::NativeId;
 pub use steps::Steps;
+pub use term::{Code, Literal, Note, NoteKind, Notes, RunFault, Term, TermPattern, TopValue};
 pub use token::{At, Token, TokenKind};
+pub use tree::{Constructor, Declaration, Expr, Operator, Pattern, Set, Side, Spot, TypeTree};
 
 /// A value's place in an arena of values: values that were made later have greater places.
 pub type Ref = u32;
+
+#[cfg(test)]
+mod tests;

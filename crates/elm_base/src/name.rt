@@ -40,6 +40,13 @@ impl Name {
         self.bytes.as_slice()
     }
 
+    /// An equal name of its own.
+    pub fn copy(&self, alloc: Global) -> Result<Name, NoMemory>
+        ensures { IfOk result (λ copied. copied ≡ self.now) }
+    {
+        Name::of(alloc, self.bytes())
+    }
+
     /// Whether these are the bytes of the name.
     pub fn is(&self, bytes: &[u8]) -> bool
         ensures { IsTrue result ↔ (self.now ≡ bytes.now) }
