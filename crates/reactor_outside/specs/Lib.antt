@@ -1,0 +1,9 @@
+pub mod Count
+pub mod Source
+pub mod Sink
+pub mod Shelf
+pub mod Calls
+pub mod Table
+pub mod Repeated
+pub mod Memory
+pub mod Supply

@@ -1,0 +1,12 @@
+use Rattle.std.specs.Prelude.{ℕ, List}
+use Rattle.reactor_outside.specs.Calls.{Calls}
+
+-- a source over memory: the bytes still to come, and its calls
+pub record MemorySource : Type 0 where
+  pub left : List ℕ
+  pub calls : Calls
+
+-- a sink over memory: the bytes taken, and its calls
+pub record MemorySink : Type 0 where
+  pub taken : List ℕ
+  pub calls : Calls
