@@ -1,0 +1,8 @@
+pub mod Script
+pub mod Literal
+pub mod Program
+pub mod Frame
+pub mod Command
+pub mod Texts
+pub mod Transcript
+pub mod Laws
