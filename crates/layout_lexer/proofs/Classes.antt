@@ -1,0 +1,21 @@
+-- Kinds of bytes.
+use Rattle.std.proofs.Common.{◌≡◌, ℕ, Bool, true, false, ◌||◌, refl, cond, ap, ◌∙◌}
+use denote.Enum.Bare.{sameb, true_same, same_true}
+use Rattle.layout_lexer.specs.contracts.byte_class.Class.{the_type}
+use Rattle.layout_lexer.specs.declared.byte_class.Class.{Class}
+use Rattle.layout_lexer.specs.declared.byte_class.Class.TheVariants.{Lower, Upper}
+use Rattle.layout_lexer.specs.Chars.{class_of, is_in, is_letter}
+
+pub is_in_its : (c : Class) (b : ℕ) → class_of b ≡ c → is_in c b ≡ true
+unfolding is_in
+is_in_its c b e = true_same the_type (class_of b) c e
+
+pub lower_is_letter : (b : ℕ) → class_of b ≡ Lower → is_letter b ≡ true
+lower_is_letter b e = ap (λ t. t || is_in Upper b) (is_in_its Lower b e)
+
+pub upper_is_letter : (b : ℕ) → class_of b ≡ Upper → is_letter b ≡ true
+upper_is_letter b e = rw (is_in_its Upper b e) (or_true (is_in Lower b))
+  where
+    or_true : (x : Bool) → (x || true) ≡ true
+    or_true true = refl
+    or_true false = refl

@@ -1,0 +1,4 @@
+pub mod Classes
+pub mod Lexing
+pub mod Places
+pub mod Tabs

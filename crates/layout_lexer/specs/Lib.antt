@@ -1,0 +1,4 @@
+pub mod Chars
+pub mod Pieces
+pub mod Places
+pub mod Tokens

@@ -1,0 +1,93 @@
+//! A text from its first token to its last.
+
+ghost use Rattle.std.specs.Prelude.{◌≡◌, ◌⊎◌, map, IfOk, IfErr, MatchOption};
+ghost use Rattle.std.specs.Str.{IsUtf8};
+ghost use Rattle.layout_lexer.specs.Tokens.{lexeme, joins as joins_of, is_value as is_value_of, fault_after as fault_after_of, HasNoTab, HasBadByte, HasTab, Scans, Stops, OnBecause};
+
+use crate::piece::next_piece;
+use crate::place::{TextFault, place_from, start};
+use elm_base::{FaultKind, Halt, Token, TokenKind};
+use memchr::memchr;
+use std::alloc::Global;
+use std::str;
+
+/// The tokens of the text.
+pub fn tokens(alloc: Global, text: &[u8]) -> Result<Vec<Token<'_>>, Halt<TextFault>>
+    ensures listed { IfOk result (λ found. Scans text.now (map lexeme found.items)) }
+    ensures refused { IfErr result (λ halt. OnBecause halt (λ fault. Stops text.now fault)) }
+{
+    if let Some(fault) = faulty_byte(text) {
+        return Err(Halt::Because(fault));
+    }
+    let mut found = Vec::new(alloc);
+    let mut at = start();
+    let mut is_joined = false;
+    let mut left = text;
+    while !left.is_empty() {
+        let piece = match next_piece(left, is_joined) {
+            Ok(piece) => piece,
+            Err(kind) => {
+                return Err(Halt::Because(TextFault {
+                    line: at.line,
+                    kind,
+                }));
+            }
+        };
+        let (spelling, rest) = left.split_at(piece.len);
+        if let Some(kind) = piece.kind {
+            found.push(Token {
+                kind,
+                text: spelling,
+                line: at.line,
+                column: at.column,
+            })?;
+        }
+        is_joined = joins(piece.kind, spelling);
+        at = place_from(at, spelling);
+        left = rest;
+    }
+    Ok(found)
+}
+
+/// Whether a `.` directly after this piece reads a field of it.
+fn joins(kind: Option<TokenKind>, spelling: &[u8]) -> bool
+    ensures { result ≡ joins_of kind spelling.now }
+{
+    match kind {
+        None => false,
+        Some(kind) => is_value(kind, spelling),
+    }
+}
+
+fn is_value(kind: TokenKind, spelling: &[u8]) -> bool
+    ensures { result ≡ is_value_of kind spelling.now }
+{
+    match kind {
+        TokenKind::Lower | TokenKind::Access => true,
+        TokenKind::Symbol => spelling.contains(&b')') || spelling.contains(&b'}'),
+        _ => false,
+    }
+}
+
+/// The fault of the first byte that isn't UTF-8, or else of the first tab.
+fn faulty_byte(text: &[u8]) -> Option<TextFault>
+    ensures { MatchOption result (IsUtf8 text.now × HasNoTab text.now) (λ f. HasBadByte text.now f ⊎ HasTab text.now f) }
+{
+    if let Err(error) = str::from_utf8(text) {
+        return Some(fault_after(&text[..error.valid_up_to()], FaultKind::NotUtf8));
+    }
+    match memchr(b'\t', text) {
+        None => None,
+        Some(at) => Some(fault_after(&text[..at], FaultKind::Tab)),
+    }
+}
+
+#[tactic(auto, using(crate::proofs::Places::steps_from_start))]
+fn fault_after(before: &[u8], kind: FaultKind) -> TextFault
+    ensures { result ≡ fault_after_of before.now kind }
+{
+    TextFault {
+        line: place_from(start(), before).line,
+        kind,
+    }
+}
