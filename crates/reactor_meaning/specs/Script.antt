@@ -1,5 +1,5 @@
 -- The lines of a script, and what is read of each.
-use Rattle.std.specs.Prelude.{◌≢◌, ◌==◌, ◌&&◌, ◌||◌, ℕ, Bool, true, false, if◌then◌else◌, not, nat_le, nat_lt, List, [], ◌∷◌, ◌++◌, length, codes, Option, Some, None}
+use Rattle.std.specs.Prelude.{◌≢◌, ◌==◌, ◌&&◌, ◌||◌, ℕ, Bool, true, false, if◌then◌else◌, not, nat_le, nat_lt, List, [], ◌∷◌, ◌++◌, length, reverse, codes, Option, Some, None}
 use Rattle.std.specs.List.{AllByRecursion, list_all, before_first, after_first}
 use Rattle.std.specs.Str.{bytes_eq}
 use Rattle.elm_base.specs.declared.command.Command.{Command}
@@ -25,21 +25,18 @@ abbrev pub trim_start : List ℕ → List ℕ
 trim_start [] = []
 trim_start (byte ∷ rest) = if byte == 32 then trim_start rest else byte ∷ rest
 
--- a byte before a text, but no space before nothing
-abbrev pub before_end : ℕ → List ℕ → List ℕ
-before_end byte [] = if byte == 32 then [] else byte ∷ []
-before_end byte (next ∷ rest) = byte ∷ next ∷ rest
-
 -- a text without the spaces after it
 abbrev pub trim_end : List ℕ → List ℕ
-trim_end [] = []
-trim_end (byte ∷ rest) = before_end byte (trim_end rest)
+trim_end text = reverse (trim_start (reverse text))
 
--- a text without the carriage return at its end, if there is one
+-- a text without its first byte, if that is a carriage return
+abbrev pub without_first_return : List ℕ → List ℕ
+without_first_return [] = []
+without_first_return (byte ∷ rest) = if byte == 13 then rest else byte ∷ rest
+
+-- a text without its last byte, if that is a carriage return
 abbrev pub without_return : List ℕ → List ℕ
-without_return [] = []
-without_return (byte ∷ []) = if byte == 13 then [] else byte ∷ []
-without_return (byte ∷ next ∷ rest) = byte ∷ without_return (next ∷ rest)
+without_return text = reverse (without_first_return (reverse text))
 
 -- What counts of a line: one carriage return before its newline is dropped, and the spaces at both ends.
 abbrev pub text_of : ScriptLine → List ℕ
@@ -91,6 +88,9 @@ abbrev pub read_line : ScriptLine → Option Command
 read_line line =
     if nat_le (length line.bytes) 65536 && list_all is_plain (text_of line) then command_of (text_of line) else None
 
--- no byte of the text is a newline
+-- no byte of the text is this one
+abbrev pub HasNone : ℕ → List ℕ → Type 0
+HasNone wanted text = AllByRecursion (λ byte. byte ≢ wanted) text
+
 abbrev pub HasNoNewline : List ℕ → Type 0
-HasNoNewline text = AllByRecursion (λ byte. byte ≢ 10) text
+HasNoNewline text = HasNone 10 text

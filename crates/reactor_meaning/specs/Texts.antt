@@ -34,14 +34,24 @@ abbrev pub name_or_dash : List ℕ → List ℕ
 name_or_dash [] = codes "-"
 name_or_dash (byte ∷ rest) = byte ∷ rest
 
+-- the module and the line of a fault
+abbrev pub fault_place : ProjectFault → List ℕ
+fault_place fault = (codes "refused ProjectRefused " ++ fault.module) ++ (codes " " ++ decimal fault.line)
+
 -- the line that says which fault a project has
 abbrev pub fault_line : ProjectFault → List ℕ
 fault_line fault = line (
-    codes "refused ProjectRefused " ++ fault.module ++ codes " " ++ decimal fault.line
-    ++ codes " " ++ kind_text fault.kind ++ codes " " ++ name_or_dash fault.name)
+  fault_place fault ++ (codes " " ++ kind_text fault.kind) ++ (codes " " ++ name_or_dash fault.name))
 
--- the line of a refusal
+-- what is written of a refusal
+abbrev pub refusal_text : CommandRefusal → List ℕ
+refusal_text (UnknownInput name) = codes "refused UnknownInput " ++ name
+refusal_text (BadValue name port) = (codes "refused BadValue " ++ name) ++ (codes " " ++ type_text port)
+refusal_text Unsupported = codes "refused Unsupported"
+
 abbrev pub refusal_line : CommandRefusal → List ℕ
-refusal_line (UnknownInput name) = line (codes "refused UnknownInput " ++ name)
-refusal_line (BadValue name port) = line (codes "refused BadValue " ++ name ++ codes " " ++ type_text port)
-refusal_line Unsupported = line (codes "refused Unsupported")
+refusal_line refusal = line (refusal_text refusal)
+
+-- the line that says that a call on the shelf failed
+abbrev pub shelf_line : List ℕ → List ℕ
+shelf_line file = line (codes "refused Shelf " ++ file)

@@ -1,0 +1,4 @@
+pub mod Ends
+pub mod Integers
+pub mod Values
+pub mod Segments

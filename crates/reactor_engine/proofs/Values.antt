@@ -1,0 +1,58 @@
+-- The value of a port after one event more.
+use Rattle.std.proofs.Common.{◌≡◌, ◌+◌, ◌++◌, ◌∙◌, ℕ, ℤ, Bool, true, false, List, [], ◌∷◌, Option, Some, None, length, sym, ap, refl, if◌then◌else◌, arith, length-append, eq-eqb}
+use Rattle.std.specs.Prelude.{◌&&◌}
+use Rattle.std.specs.Str.{bytes_eq}
+use Rattle.elm_base.specs.declared.command.Command.TheVariants as command
+use Rattle.elm_base.specs.declared.event.Event.{Event}
+use Rattle.elm_base.specs.declared.event.Event.TheVariants as event
+use Rattle.elm_base.specs.declared.event.PortType.TheVariants as type
+use Rattle.elm_base.specs.declared.event.PortValue.TheVariants as value
+use Rattle.reactor_outside.specs.Shelf.{Files}
+use Rattle.reactor_engine.specs.Session.{integer_event}
+use Rattle.reactor_meaning.specs.Literal.{integer_of}
+use Rattle.reactor_meaning.specs.Program.{after_event, after_events, value_of}
+use Rattle.reactor_meaning.specs.Command.{State, Step, next, recorded, refused, input_value}
+use Rattle.elm_base.specs.declared.command.CommandRefusal.TheVariants.{UnknownInput}
+use Rattle.reactor_meaning.specs.Transcript.{frame_of, answer_text}
+
+-- a text is the same as itself
+pub bytes_eq-same : (text : List ℕ) → bytes_eq text text ≡ true
+bytes_eq-same [] = refl
+bytes_eq-same (byte ∷ rest) = ap (λ test. test && bytes_eq rest rest) (eq-eqb byte byte refl) ∙ bytes_eq-same rest
+
+pub after_events-push : (port : List ℕ) (events : List Event) (e : Event) (old : ℤ) → after_events port (events ++ e ∷ []) old ≡ after_event port e (after_events port events old)
+after_events-push port [] e old = refl
+after_events-push port (first ∷ events) e old = after_events-push port events e (after_event port first old)
+
+pub value_of-push : (port : List ℕ) (events : List Event) (number : ℤ) → value_of port (events ++ integer_event port number ∷ []) ≡ number
+value_of-push port events number =
+    after_events-push port events (integer_event port number) _
+    ∙ ap (λ same. if same then number else value_of port events) (bytes_eq-same port)
+
+abbrev pub state_at_end : List ℕ → List Event → Files → State
+state_at_end port events files = record { program = record { port = port }; events = events; cursor = length events; files = files }
+
+-- an input of the port that spells an integer is recorded
+accepted : (files : Files) (port name text : List ℕ) (events : List Event) (number : ℤ) → port ≡ name → integer_of text ≡ Some number → next (state_at_end port events files) (command.Input name text) None ≡ recorded (state_at_end port events files) (integer_event name number)
+accepted files port name text events number same is =
+    let state = state_at_end port events files in
+    let named : bytes_eq port name ≡ true = ap (λ other. bytes_eq port other) (sym same) ∙ bytes_eq-same port in
+    ap (λ test. if test then input_value state name (integer_of text) else refused state (UnknownInput name)) named
+    ∙ ap (input_value state name) is
+
+pub state_after : (files : Files) (port new_port : List ℕ) (events new_events : List Event) (e : Event) → new_port ≡ port → new_events ≡ events ++ e ∷ [] → state_at_end new_port new_events files ≡ (recorded (state_at_end port events files) e).state
+state_after files port new_port events new_events e port_is events_is =
+    let longer : length (events ++ e ∷ []) ≡ length events + 1 = omega (arith, length-append events (e ∷ [])) in
+    ap (λ p. state_at_end p new_events files) port_is
+    ∙ ap (λ es. state_at_end port es files) events_is
+    ∙ ap (λ (n : ℕ). record { program = record { port = port }; events = events ++ e ∷ []; cursor = n; files = files }) longer
+
+-- the answer to such an input is the frame of the next state
+pub answers_input : (port name text before after : List ℕ) (events : List Event) (number : ℤ) (files : Files) (new_state : State) → port ≡ name → integer_of text ≡ Some number → (new_state ≡ (recorded (state_at_end port events files) (integer_event name number)).state) × (after ≡ before ++ frame_of new_state) → let step = next (state_at_end port events files) (command.Input name text) None in (new_state ≡ step.state) × (after ≡ before ++ answer_text step.state step.answer)
+answers_input port name text before after events number files new_state same is shows =
+    let step_is = accepted files port name text events number same is in (
+      shows.0 ∙ ap (λ (step : Step). step.state) (sym step_is),
+      shows.1
+      ∙ ap (λ state. before ++ frame_of state) shows.0
+      ∙ ap (λ (step : Step). before ++ answer_text step.state step.answer) (sym step_is),
+    )
