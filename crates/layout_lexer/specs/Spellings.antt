@@ -1,5 +1,5 @@
 -- The spellings of each kind of token, and which of them stands at a place.
-use Rattle.std.specs.Prelude.{◌≡◌, ◌≢◌, ℕ, zero, suc, ◌+◌, ◌-◌, ◌*◌, ◌<◌, ◌≤◌, ⊤, Bool, true, false, not, ◌==◌, ◌⊎◌, if◌then◌else◌, List, [], ◌∷◌, ◌++◌, length, drop, Option, Some, None, All}
+use Rattle.std.specs.Prelude.{◌≡◌, ◌≢◌, ℕ, zero, suc, ◌+◌, ◌-◌, ◌*◌, ◌<◌, ◌≤◌, ⊤, Bool, true, false, not, ◌==◌, ◌⊎◌, if◌then◌else◌, List, [], ◌∷◌, ◌++◌, length, drop, Option, Some, None}
 use Rattle.std.specs.List.{list_all}
 use Rattle.elm_base.specs.declared.token.TokenKind.{TokenKind}
 use Rattle.elm_base.specs.declared.token.TokenKind.TheVariants as kind
@@ -24,6 +24,10 @@ pub record IsLongest (Spells : Text → Type 0) (text s : Text) : Type 0 where
   pub front : Begins s text
   pub longest : (t : Text) → Begins t text → Spells t → length t ≤ length s
 
+abbrev pub Each : (Text → Type 0) → List Text → Type 0
+Each P [] = ⊤
+Each P (x ∷ xs) = P x × Each P xs
+
 -- ---- names
 
 -- one letter of the class, and then letters, digits, `_` and `'`
@@ -42,7 +46,7 @@ dotted (u ∷ us) s = u ++ 46 ∷ dotted us s
 pub record IsQualified (c : Class) (s : Text) : Type 0 where
   pub modules : List Text
   pub last : Text
-  pub upper : All (IsSimple class.Upper) modules
+  pub upper : Each (IsSimple class.Upper) modules
   pub simple : IsSimple c last
   pub split : s ≡ dotted modules last
 
@@ -95,7 +99,7 @@ joined_units (u ∷ us) = u ++ joined_units us
 -- what may stand between double quotes, on one line
 pub record IsQuoted (s : Text) : Type 0 where
   pub units : List Text
-  pub each : All (λ u. IsPlain u ⊎ IsEscape u) units
+  pub each : Each (λ u. IsPlain u ⊎ IsEscape u) units
   pub split : s ≡ joined_units units
 
 pub record IsText (s : Text) : Type 0 where
