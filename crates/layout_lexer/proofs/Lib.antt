@@ -3,6 +3,7 @@ pub mod Lexing
 pub mod Longest
 pub mod Names
 pub mod NameReads
+pub mod NumberReads
 pub mod Dispatch
 pub mod Places
 pub mod Tabs

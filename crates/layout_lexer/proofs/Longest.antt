@@ -5,9 +5,10 @@ use Rattle.std.proofs.lemmas.Bool.{and_parts}
 use Rattle.std.proofs.lemmas.List.{take_at, drop_at}
 use Rattle.std.proofs.lemmas.List.Sums.{prefix_len-le-length}
 use Rattle.std.proofs.lemmas.List.Folds.{length-prefix_len}
-use Rattle.layout_lexer.specs.Chars.{Text, past, runs_on}
-use Rattle.layout_lexer.specs.declared.byte_class.Run.{Run}
-use Rattle.layout_lexer.specs.Spellings.{Begins, IsLongest}
+use Rattle.std.specs.Prelude.{slice_index}
+use Rattle.layout_lexer.specs.declared.byte_class.Class.{Class}
+use Rattle.layout_lexer.specs.Chars.{Text, is_in}
+use Rattle.layout_lexer.specs.Spellings.{Begins, IsLongest, IsRun}
 
 pub front_taken : (s text : Text) → Begins s text → take (length s) text ≡ s
 front_taken s text b = ap (take (length s)) b.1 ∙ take_at s b.0 (length s) refl
@@ -60,3 +61,31 @@ module _ (p : ℕ → Bool) where
 
   pub run_within : (text t : Text) → Begins t text → list_all p t ≡ true → length t ≤ prefix_len p text
   run_within text t b h = subst (λ (u : Text). length t ≤ prefix_len p u) (sym b.1) (run_most t b.0 h)
+
+-- the front that has no further byte of the kind
+pub run_ends : (p : ℕ → Bool) (t rest : Text) → list_all p t ≡ true → (0 < length rest → p (slice_index rest 0) ≡ false) → prefix_len p (t ++ rest) ≡ length t
+run_ends p [] [] h f = refl
+run_ends p [] (b ∷ bs) h f = rw (f (omega arith)) refl
+run_ends p (b ∷ bs) rest h f = let parts = and_parts (p b) (list_all p bs) h in rw (parts.0, run_ends p bs rest parts.1 f) (omega arith)
+
+pub run_first : (p : ℕ → Bool) (text : Text) → 0 < length text → p (slice_index text 0) ≡ true → 0 < prefix_len p text
+run_first p [] l e = absurd (omega arith)
+run_first p (b ∷ bs) l e = rw e (omega arith)
+
+module _ (c : Class) (text : Text) where
+  pub longest_run : 0 < prefix_len (is_in c) text → IsLongest (IsRun c) text (take (prefix_len (is_in c) text) text)
+  longest_run h =
+      let len = length-prefix_len (is_in c) text in
+      record {
+        spells = (omega arith, run_passes (is_in c) text);
+        front = begins_take (prefix_len (is_in c) text) text;
+        longest = λ t b r. omega (arith, run_within (is_in c) text t b r.1);
+      }
+
+  pub longest_run_len : (s : Text) → IsLongest (IsRun c) text s → length s ≡ prefix_len (is_in c) text
+  longest_run_len s l =
+      let below = run_within (is_in c) text s l.front l.spells.1 in
+      let some = l.spells.0 in
+      let above = l.longest (take (prefix_len (is_in c) text) text) (begins_take (prefix_len (is_in c) text) text) (longest_run (omega arith)).spells in
+      let len = length-prefix_len (is_in c) text in
+      omega arith
