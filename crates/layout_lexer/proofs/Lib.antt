@@ -4,6 +4,8 @@ pub mod Longest
 pub mod Names
 pub mod NameReads
 pub mod NumberReads
+pub mod OperatorReads
+pub mod TextReads
 pub mod Dispatch
 pub mod Places
 pub mod Tabs

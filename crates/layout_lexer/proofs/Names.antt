@@ -15,7 +15,7 @@ use Rattle.layout_lexer.specs.Spellings.{Begins, IsLongest, IsSimple, IsQualifie
 use Rattle.layout_lexer.proofs.Longest.{front_within, front_taken}
 use Rattle.layout_lexer.proofs.Classes.{is_in_its, its_class, lower_is_letter, upper_is_letter}
 
-letter_is_name : (b : ℕ) → is_letter b ≡ true → is_name_byte b ≡ true
+pub letter_is_name : (b : ℕ) → is_letter b ≡ true → is_name_byte b ≡ true
 letter_is_name b e = rw e
 
 -- ---- over what is a name
