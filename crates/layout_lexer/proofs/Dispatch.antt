@@ -1,6 +1,7 @@
 -- Which reader reads the front of a text, by the class of its first byte.
 use Rattle.std.proofs.Common.{◌≡◌, ◌≢◌, ℕ, ◌+◌, ◌<◌, ◌≤◌, Bool, true, false, ◌&&◌, cond, List, [], ◌∷◌, ◌++◌, length, take, drop, Option, Some, None, Ok, Err, refl, sym, ap, ◌∙◌, subst, arith, eqb, ne_eqb}
 use Rattle.std.specs.Prelude.{slice_index}
+use Rattle.std.proofs.lemmas.Bool.{and_parts, eqb-true}
 use Rattle.elm_base.specs.declared.fault.FaultKind.{FaultKind}
 use Rattle.layout_lexer.specs.declared.byte_class.Class.{Class}
 use Rattle.layout_lexer.specs.declared.byte_class.Class.TheVariants.{Operator, Symbol}
@@ -43,3 +44,17 @@ part_of q text = record { kind = q.kind; text = take q.len text }
 abbrev pub Meets : Bool → Text → Read → Type 0
 Meets joined text (Ok q) = Stands joined text (part_of q text)
 Meets joined text (Err k) = Faulty text k
+
+-- a text that begins with two bytes
+pub opens_shape : (a b : ℕ) (text : Text) → 0 < a → 0 < b → opens a b text ≡ true → (rest : Text) × (text ≡ a ∷ b ∷ rest)
+opens_shape a b [] h k e =
+    let parts = and_parts (eqb 0 a) (eqb 0 b) e in
+    let same = eqb-true 0 a parts.0 in
+    absurd (omega arith)
+opens_shape a b (c ∷ []) h k e =
+    let parts = and_parts (eqb c a) (eqb 0 b) e in
+    let same = eqb-true 0 b parts.1 in
+    absurd (omega arith)
+opens_shape a b (c ∷ d ∷ ds) h k e =
+    let parts = and_parts (eqb c a) (eqb d b) e in
+    (ds, (λ i. eqb-true c a parts.0 i ∷ eqb-true d b parts.1 i ∷ ds))

@@ -1,5 +1,5 @@
 -- The reader of texts meets the definition, and nothing else does.
-use Rattle.std.proofs.Common.{◌≡◌, ◌≢◌, ℕ, zero, suc, ◌+◌, ◌-◌, ◌<◌, ◌≤◌, Bool, true, false, cond, ◌&&◌, ◌||◌, ◌⊎◌, List, [], ◌∷◌, ◌++◌, length, take, drop, Ok, Err, Result, refl, sym, ap, ◌∙◌, subst, inl, inr, arith, eqb, ne_eqb, append_assoc, length-append}
+use Rattle.std.proofs.Common.{◌≡◌, ◌≢◌, ℕ, zero, suc, ◌+◌, ◌-◌, ◌<◌, ◌≤◌, Bool, true, false, cond, ◌&&◌, ◌||◌, ◌⊎◌, List, [], ◌∷◌, ◌++◌, length, take, drop, Some, Ok, Err, Result, refl, sym, ap, ◌∙◌, subst, inl, inr, arith, eqb, ne_eqb, append_assoc, length-append}
 use Rattle.std.specs.Prelude.{slice_index, if◌then◌else◌}
 use Rattle.std.proofs.lemmas.Bool.{and_parts, and_from, eqb-true, eqb-false, true≢false}
 use Rattle.std.specs.Char.{is_ascii_lowercase, is_ascii_uppercase, is_ascii_digit}
@@ -13,7 +13,7 @@ use Rattle.layout_lexer.specs.Chars.{Text, class_of, is_among}
 use Rattle.layout_lexer.specs.Pieces.{Read, quoted_text, quoted_from, text_of, is_escape, open_or_bad, token, piece, opens}
 use Rattle.layout_lexer.specs.Spellings.{Begins, IsLongest, Each, IsPlain, IsEscape, IsQuoted, IsText, EndsLine, EndsTextLine, joined_units, Stands, text as text_rule, Faulty, three_quotes, open_text, bad_escape}
 use Rattle.layout_lexer.proofs.Longest.{front_taken}
-use Rattle.layout_lexer.proofs.Dispatch.{Meets, by_plain_class}
+use Rattle.layout_lexer.proofs.Dispatch.{Meets, by_plain_class, opens_shape}
 
 -- ---- what may stand between the quotes
 
@@ -124,3 +124,114 @@ line_end at (b ∷ bs) (inr e) = ap (quoted_from false at) e.1 ∙ go e.0 e.2
 
 escape_end : (at b : ℕ) (more : Text) → is_escape b ≡ false → b ≢ 10 → quoted_from false at (92 ∷ b ∷ more) ≡ Err fault.BadChar
 escape_end at b more e n = rw (e, ne_eqb b 10 n) refl
+
+-- ---- the whole text
+
+text_value : (t s : Text) → Begins s (34 ∷ t) → IsText s → quoted_from false 1 t ≡ Ok (length s)
+text_value t s b x =
+    let tail : t ≡ x.inside ++ 34 ∷ b.0 = ap (drop 1) (b.1 ∙ ap (λ y. y ++ b.0) x.split) ∙ append_assoc x.inside (34 ∷ []) b.0 in
+    ap (quoted_from false 1) tail ∙ over_quoted x.inside (34 ∷ b.0) x.quoted 1
+    ∙ ap (λ (n : ℕ). Ok n) (omega (arith, ap length x.split, length-append x.inside (34 ∷ [])))
+
+text_of_inside : Text → Text
+text_of_inside inside = 34 ∷ (inside ++ 34 ∷ [])
+
+text_len : (inside : Text) → 1 + length inside + 1 ≡ length (text_of_inside inside)
+unfolding text_of_inside
+text_len inside = omega (arith, length-append inside (34 ∷ []))
+
+longest_text : (t inside more : Text) → IsQuoted inside → t ≡ inside ++ 34 ∷ more → IsLongest IsText (34 ∷ t) (text_of_inside inside)
+unfolding text_of_inside
+longest_text t inside more q e =
+    let s : Text = 34 ∷ (inside ++ 34 ∷ []) in
+    let spells : IsText s = record { inside = inside; split = refl; quoted = q } in
+    let front : Begins s (34 ∷ t) = (more, ap (λ x. 34 ∷ x) (e ∙ sym (append_assoc inside (34 ∷ []) more))) in
+    record {
+      spells = spells;
+      front = front;
+      longest = λ u b x.
+          let there : quoted_from false 1 t ≡ Ok (length u) = text_value t u b x in
+          let here : quoted_from false 1 t ≡ Ok (length s) = text_value t s front spells in
+          let len : length u ≡ length s = cc in
+          omega arith;
+    }
+
+text_is : (t : Text) → opens 34 34 t ≡ false → quoted_text (34 ∷ t) ≡ text_of (quoted_from false 1 t)
+unfolding quoted_text
+text_is t e = rw e refl
+
+text_meets_at : (joined : Bool) (t : Text) → opens 34 34 t ≡ false → Quoted t → Meets joined (34 ∷ t) (quoted_text (34 ∷ t))
+text_meets_at joined t plain q = subst (Meets joined (34 ∷ t)) (sym (text_is t plain ∙ ap text_of read)) (go q.ending)
+  where
+    read : quoted_from false 1 t ≡ quoted_from false (1 + length q.inside) q.rest
+    read = ap (quoted_from false 1) q.split ∙ over_quoted q.inside q.rest q.quoted 1
+    go : Ending q.rest → Meets joined (34 ∷ t) (text_of (quoted_from false (1 + length q.inside) q.rest))
+    go (at_quote more e) =
+        let whole : t ≡ q.inside ++ 34 ∷ more = q.split ∙ ap (λ x. q.inside ++ x) e in
+        let l = longest_text t q.inside more q.quoted whole in
+        let len : 1 + length q.inside + 1 ≡ length (text_of_inside q.inside) = text_len q.inside in
+        subst (λ (x : Text). Meets joined (34 ∷ t) (text_of (quoted_from false (1 + length q.inside) x))) (sym e)
+        (subst (λ (n : ℕ). Meets joined (34 ∷ t) (Ok (token kind.Text n))) (sym len)
+        (text_rule (text_of_inside q.inside) plain l (ap (λ x. record { kind = Some kind.Text; text = x }) (front_taken (text_of_inside q.inside) (34 ∷ t) l.front))))
+    go (at_line e) = subst (λ r. Meets joined (34 ∷ t) (text_of r)) (sym (line_end (1 + length q.inside) q.rest e)) (open_text q.inside q.rest (ap (λ x. 34 ∷ x) q.split) q.quoted e refl)
+    go (at_escape b more e f n) =
+        subst (λ (x : Text). Meets joined (34 ∷ t) (text_of (quoted_from false (1 + length q.inside) x))) (sym e)
+        (subst (λ r. Meets joined (34 ∷ t) (text_of r)) (sym (escape_end (1 + length q.inside) b more f n))
+        (bad_escape q.inside more b (ap (λ x. 34 ∷ x) (q.split ∙ ap (λ x. q.inside ++ x) e)) q.quoted f n refl))
+
+three_is : (t : Text) → opens 34 34 t ≡ true → quoted_text (34 ∷ t) ≡ Err fault.Excluded
+unfolding quoted_text
+three_is t e = rw e refl
+
+pub text_meets : (joined : Bool) (t : Text) → Meets joined (34 ∷ t) (quoted_text (34 ∷ t))
+text_meets joined t = go (opens 34 34 t) refl
+  where
+    go : (x : Bool) → opens 34 34 t ≡ x → Meets joined (34 ∷ t) (quoted_text (34 ∷ t))
+    go true e =
+        let s = opens_shape 34 34 t (omega arith) (omega arith) e in
+        subst (Meets joined (34 ∷ t)) (sym (three_is t e)) (three_quotes s.0 (ap (λ x. 34 ∷ x) s.1) refl)
+    go false e = text_meets_at joined t e (quoted t)
+
+-- ---- what is read where the definition has a text
+
+quote_class : class_of 34 ≡ Quote
+unfolding class_of
+quote_class = refl
+
+read_as_text : (joined : Bool) (t : Text) → piece joined (34 ∷ t) ≡ quoted_text (34 ∷ t)
+read_as_text joined t = by_plain_class joined (34 ∷ t) Quote quote_class (λ f. cc) (λ f. cc)
+
+pub text_read : (joined : Bool) (text s : Text) → opens 34 34 (drop 1 text) ≡ false → IsLongest IsText text s → piece joined text ≡ Ok (token kind.Text (length s))
+text_read joined text s plain l =
+    let t : Text = l.spells.inside ++ 34 ∷ l.front.0 in
+    let whole : text ≡ 34 ∷ t = l.front.1 ∙ ap (λ x. x ++ l.front.0) l.spells.split ∙ ap (λ x. 34 ∷ x) (append_assoc l.spells.inside (34 ∷ []) l.front.0) in
+    ap (piece joined) whole ∙ read_as_text joined t ∙ text_is t (sym (ap (λ x. opens 34 34 (drop 1 x)) whole) ∙ plain)
+    ∙ ap text_of (text_value t s (l.front.0, sym whole ∙ l.front.1) l.spells)
+
+pub three_quotes_read : (joined : Bool) (text rest : Text) → text ≡ 34 ∷ 34 ∷ 34 ∷ rest → piece joined text ≡ Err fault.Excluded
+three_quotes_read joined text rest e = ap (piece joined) e ∙ read_as_text joined (34 ∷ 34 ∷ rest) ∙ three_is (34 ∷ 34 ∷ rest) refl
+
+no_quote_first : (units : List Text) (rest : Text) → Each (λ u. IsPlain u ⊎ IsEscape u) units → eqb (slice_index rest 0) 34 ≡ false → eqb (slice_index (joined_units units ++ rest) 0) 34 ≡ false
+no_quote_first [] rest each h = h
+no_quote_first (u ∷ us) rest each h = go u each.0
+  where
+    go : (u : Text) → IsPlain u ⊎ IsEscape u → eqb (slice_index ((u ++ joined_units us) ++ rest) 0) 34 ≡ false
+    go u (inl p) = ap (λ t. eqb (slice_index ((t ++ joined_units us) ++ rest) 0) 34) p.split ∙ ne_eqb p.byte 34 p.no_quote
+    go u (inr x) = ap (λ t. eqb (slice_index ((t ++ joined_units us) ++ rest) 0) 34) x.split
+
+inside_read : (joined : Bool) (text inside rest : Text) → text ≡ 34 ∷ (inside ++ rest) → IsQuoted inside → eqb (slice_index rest 0) 34 ≡ false
+    → piece joined text ≡ text_of (quoted_from false (1 + length inside) rest)
+inside_read joined text inside rest e q h =
+    let first : eqb (slice_index (inside ++ rest) 0) 34 ≡ false = ap (λ t. eqb (slice_index (t ++ rest) 0) 34) q.split ∙ no_quote_first q.units rest q.each h in
+    ap (piece joined) e ∙ read_as_text joined (inside ++ rest) ∙ text_is (inside ++ rest) (rw first refl) ∙ ap text_of (over_quoted inside rest q 1)
+
+line_no_quote : (rest : Text) → EndsTextLine rest → eqb (slice_index rest 0) 34 ≡ false
+line_no_quote [] e = refl
+line_no_quote (b ∷ bs) (inl e) = ap (λ x. eqb x 34) e
+line_no_quote (b ∷ bs) (inr e) = ap (λ t. eqb (slice_index t 0) 34) e.1
+
+pub open_text_read : (joined : Bool) (text inside rest : Text) → text ≡ 34 ∷ (inside ++ rest) → IsQuoted inside → EndsTextLine rest → piece joined text ≡ Err fault.OpenString
+open_text_read joined text inside rest e q h = inside_read joined text inside rest e q (line_no_quote rest h) ∙ ap text_of (line_end (1 + length inside) rest h)
+
+pub bad_escape_read : (joined : Bool) (text inside rest : Text) (b : ℕ) → text ≡ 34 ∷ (inside ++ 92 ∷ b ∷ rest) → IsQuoted inside → is_escape b ≡ false → b ≢ 10 → piece joined text ≡ Err fault.BadChar
+bad_escape_read joined text inside rest b e q f n = inside_read joined text inside (92 ∷ b ∷ rest) e q refl ∙ ap text_of (escape_end (1 + length inside) b rest f n)
