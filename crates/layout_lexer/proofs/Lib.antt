@@ -6,6 +6,7 @@ pub mod NameReads
 pub mod NumberReads
 pub mod OperatorReads
 pub mod TextReads
+pub mod CharReads
 pub mod Dispatch
 pub mod Places
 pub mod Tabs
