@@ -7,6 +7,7 @@ pub mod NumberReads
 pub mod OperatorReads
 pub mod TextReads
 pub mod CharReads
+pub mod CommentReads
 pub mod Dispatch
 pub mod Places
 pub mod Tabs
