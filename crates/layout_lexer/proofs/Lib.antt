@@ -8,6 +8,7 @@ pub mod OperatorReads
 pub mod TextReads
 pub mod CharReads
 pub mod CommentReads
+pub mod Whole
 pub mod Dispatch
 pub mod Places
 pub mod Tabs
