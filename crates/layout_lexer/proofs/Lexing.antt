@@ -1,5 +1,5 @@
 -- What has been read of a text so far.
-use Rattle.std.proofs.Common.{◌≡◌, ℕ, ◌+◌, Bool, true, false, List, [], ◌∷◌, ◌++◌, length, map, Option, Some, None, Ok, Err, refl, sym, ap, ◌∙◌, subst, append_assoc, append-nil, arith}
+use Rattle.std.proofs.Common.{◌≡◌, ℕ, ◌+◌, ◌<◌, Bool, true, false, List, [], ◌∷◌, ◌++◌, length, map, Option, Some, None, Ok, Err, refl, sym, ap, ◌∙◌, subst, append_assoc, append-nil, arith}
 use Rattle.std.specs.Str.{IsUtf8}
 use Rattle.elm_base.specs.declared.token.At.{At}
 use Rattle.elm_base.specs.declared.token.Token.{Token}
@@ -78,15 +78,15 @@ pub read_all : (text : Text) (found : List Lexeme) (at : At) (joined : Bool) (le
 read_all text found at joined left utf8 no_tab r e = record { utf8 = utf8; no_tab = no_tab; parts = r.parts; cut = subst (Cut Reads false text r.parts) e r.cut; same = r.same }
 
 pub read_fault : (text : Text) (found : List Lexeme) (at : At) (joined : Bool) (left : Text) (k : FaultKind) → IsUtf8 text → HasNoTab text
-    → Read text found at joined left → piece joined left ≡ Err k → HasBadToken Reads Refuses text (record { line = at.line; kind = k })
-read_fault text found at joined left k utf8 no_tab r e = record {
+    → Read text found at joined left → 0 < length left → piece joined left ≡ Err k → HasBadToken Reads Refuses text (record { line = at.line; kind = k })
+read_fault text found at joined left k utf8 no_tab r l e = record {
   utf8 = utf8;
   no_tab = no_tab;
   parts = r.parts;
   rest = left;
   cut = r.cut;
   kind = k;
-  faulty = (joined, e);
+  faulty = (joined, l, e);
   same = ap (λ (a : At). record { line = a.line; kind = k }) r.place;
 }
 

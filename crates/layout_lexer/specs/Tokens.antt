@@ -1,5 +1,5 @@
 -- A text cut into tokens, white space and comments; the first fault of a text.
-use Rattle.std.specs.Prelude.{◌≡◌, ℕ, ⊤, Bool, true, false, ◌⊎◌, ◌==◌, ◌||◌, List, [], ◌∷◌, ◌++◌, take, length, map, Option, Some, None, Result, Ok, Err}
+use Rattle.std.specs.Prelude.{◌≡◌, ℕ, ◌<◌, ⊤, Bool, true, false, ◌⊎◌, ◌==◌, ◌||◌, List, [], ◌∷◌, ◌++◌, take, length, map, Option, Some, None, Result, Ok, Err}
 use Rattle.std.specs.List.{flat_map}
 use Rattle.std.specs.Str.{IsUtf8, IsValidUpTo}
 use Rattle.elm_base.specs.declared.memory.Halt.{Halt}
@@ -117,7 +117,7 @@ abbrev pub Reads : Bool → Text → Part → Type 0
 Reads joined text p = piece joined text ≡ Ok (piece_of p)
 
 abbrev pub Refuses : Text → FaultKind → Type 0
-Refuses text k = (joined : Bool) × (piece joined text ≡ Err k)
+Refuses text k = (joined : Bool) × (0 < length text) × (piece joined text ≡ Err k)
 
 abbrev pub Scans : Text → List Lexeme → Type 0
 Scans = TokensBy Reads Refuses
