@@ -11,8 +11,10 @@ use Rattle.elm_base.specs.declared.fault.FaultKind.TheVariants as fault
 use Rattle.layout_lexer.specs.declared.byte_class.Class.TheVariants.{Apostrophe}
 use Rattle.layout_lexer.specs.declared.piece.Piece.{Piece}
 use Rattle.layout_lexer.specs.Chars.{Text, class_of, is_continuation}
-use Rattle.layout_lexer.specs.Pieces.{Read, character, char_end, is_escape, token, piece}
-use Rattle.layout_lexer.specs.Spellings.{Begins, IsLongest, IsOneChar, IsEscape, IsChar, Stands, char, Faulty, bad_char}
+use Rattle.layout_lexer.specs.Marks.{is_escape}
+use Rattle.layout_lexer.specs.Spellings.{Begins, IsLongest, IsOneChar, IsEscape, IsChar}
+use Rattle.layout_lexer.specs.Tokens.{Stands, char, Faulty, bad_char}
+use Rattle.layout_lexer.specs.Pieces.{Read, character, char_end, token, piece}
 use Rattle.layout_lexer.proofs.Longest.{front_taken, run_ends, run_passes}
 use Rattle.layout_lexer.proofs.Dispatch.{Meets, by_plain_class}
 

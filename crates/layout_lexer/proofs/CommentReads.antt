@@ -8,8 +8,11 @@ use Rattle.elm_base.specs.declared.fault.FaultKind.{FaultKind}
 use Rattle.elm_base.specs.declared.fault.FaultKind.TheVariants as fault
 use Rattle.layout_lexer.specs.declared.byte_class.Run.TheVariants as over
 use Rattle.layout_lexer.specs.Chars.{Text, past, runs_on}
-use Rattle.layout_lexer.specs.Pieces.{Read, comment_from, comment_len, comment, closed, blank, opens, piece}
-use Rattle.layout_lexer.specs.Spellings.{Begins, closes_within, Closes, Stands, comment as comment_rule, line_comment, Faulty, open_comment, EndsLine, is_line_byte, blank_part}
+use Rattle.layout_lexer.specs.Marks.{opens}
+use Rattle.layout_lexer.specs.Spellings.{Begins}
+use Rattle.layout_lexer.specs.Comments.{closes_within, Closes, EndsLine, is_line_byte}
+use Rattle.layout_lexer.specs.Tokens.{Stands, comment as comment_rule, line_comment, Faulty, open_comment, blank_part}
+use Rattle.layout_lexer.specs.Pieces.{Read, comment_from, comment_len, comment, closed, blank, piece}
 use Rattle.layout_lexer.proofs.Longest.{front_taken, run_ends, run_passes}
 use Rattle.layout_lexer.proofs.Dispatch.{Meets, opens_shape}
 

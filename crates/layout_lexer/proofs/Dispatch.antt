@@ -7,9 +7,10 @@ use Rattle.layout_lexer.specs.declared.byte_class.Class.{Class}
 use Rattle.layout_lexer.specs.declared.byte_class.Class.TheVariants.{Operator, Symbol}
 use Rattle.layout_lexer.specs.declared.piece.Piece.{Piece}
 use Rattle.layout_lexer.specs.Chars.{Text, class_of}
-use Rattle.layout_lexer.specs.Pieces.{Read, opens, piece, spelling, by_class}
-use Rattle.layout_lexer.specs.Tokens.{Part}
-use Rattle.layout_lexer.specs.Spellings.{Stands, Faulty}
+use Rattle.layout_lexer.specs.Marks.{opens}
+use Rattle.layout_lexer.specs.Cuts.{Part}
+use Rattle.layout_lexer.specs.Tokens.{Stands, Faulty}
+use Rattle.layout_lexer.specs.Pieces.{Read, piece, spelling, by_class}
 
 other_byte : (b d : ℕ) → (class_of b ≡ class_of d → ⊥) → eqb b d ≡ false
 other_byte b d f = ne_eqb b d (λ e. f (ap class_of e))

@@ -10,9 +10,11 @@ use Rattle.elm_base.specs.declared.fault.FaultKind.TheVariants as fault
 use Rattle.layout_lexer.specs.declared.piece.Piece.{Piece}
 use Rattle.layout_lexer.specs.declared.place.TextFault.{TextFault}
 use Rattle.layout_lexer.specs.Chars.{Text, class_of, is_among}
+use Rattle.layout_lexer.specs.Lexemes.{Lexeme, fault_after}
+use Rattle.layout_lexer.specs.Cuts.{Part, Cut, joins, texts, lexemes, HasBadByte, HasTab, HasBadToken, HasNoTab}
+use Rattle.layout_lexer.specs.Tokens.{Stands, Faulty, Tokens, FirstFault}
 use Rattle.layout_lexer.specs.Pieces.{Read, piece, spelling}
-use Rattle.layout_lexer.specs.Tokens.{Part, Cut, joins, texts, lexemes, Lexeme, piece_of, Reads, Refuses, Scans, Stops, HasBadByte, HasTab, HasBadToken, HasNoTab, fault_after}
-use Rattle.layout_lexer.specs.Spellings.{Stands, Faulty, Tokens, FirstFault}
+use Rattle.layout_lexer.specs.Scan.{piece_of, Reads, Refuses, Scans, Stops}
 use Rattle.layout_lexer.proofs.Longest.{front_taken, front_dropped, same_front}
 use Rattle.layout_lexer.proofs.Dispatch.{Meets, part_of}
 use Rattle.layout_lexer.proofs.Whole.{meets, stands_read, faulty_read, stands_some, faulty_some}

@@ -10,8 +10,10 @@ use Rattle.layout_lexer.specs.declared.piece.Piece.{Piece}
 use Rattle.layout_lexer.specs.declared.place.TextFault.{TextFault}
 use Rattle.layout_lexer.specs.Chars.{Text}
 use Rattle.layout_lexer.specs.Places.{place_after, steps}
+use Rattle.layout_lexer.specs.Lexemes.{Lexeme, lexeme, fault_after}
+use Rattle.layout_lexer.specs.Cuts.{Part, Cut, texts, joins, joined_after, lexemes, listed, HasNoTab, HasBadToken}
 use Rattle.layout_lexer.specs.Pieces.{piece}
-use Rattle.layout_lexer.specs.Tokens.{Part, Cut, texts, joins, joined_after, lexemes, listed, Lexeme, lexeme, Reads, Refuses, Scans, Stops, HasNoTab, HasBadToken, fault_after}
+use Rattle.layout_lexer.specs.Scan.{Reads, Refuses, Scans, Stops}
 use Rattle.layout_lexer.proofs.Places.{steps_more}
 
 -- ---- a part more

@@ -10,6 +10,7 @@ pub mod CharReads
 pub mod CommentReads
 pub mod Whole
 pub mod Laws
+pub mod Contract
 pub mod Dispatch
 pub mod Places
 pub mod Tabs

@@ -9,9 +9,12 @@ use Rattle.layout_lexer.specs.declared.byte_class.Class.TheVariants.{Lower, Uppe
 use Rattle.layout_lexer.specs.declared.name.TheConstants.{MAX_NAME}
 use Rattle.layout_lexer.specs.declared.piece.Piece.{Piece}
 use Rattle.layout_lexer.specs.Chars.{Text, class_of, is_in, is_letter}
-use Rattle.layout_lexer.specs.Pieces.{Read, name, name_end, name_kind, token, is_listed, words, piece}
-use Rattle.layout_lexer.specs.Tokens.{Part, piece_of}
-use Rattle.layout_lexer.specs.Spellings.{Begins, IsLongest, IsName, IsQualified, Stands, word, lower, upper, Faulty, long_name, token_part}
+use Rattle.layout_lexer.specs.Marks.{is_listed, words}
+use Rattle.layout_lexer.specs.Spellings.{Begins, IsLongest, IsName, IsQualified}
+use Rattle.layout_lexer.specs.Cuts.{Part}
+use Rattle.layout_lexer.specs.Tokens.{Stands, word, lower, upper, Faulty, long_name, token_part}
+use Rattle.layout_lexer.specs.Pieces.{Read, name, name_end, name_kind, token, piece}
+use Rattle.layout_lexer.specs.Scan.{piece_of}
 use Rattle.layout_lexer.proofs.Classes.{its_class, letter_class}
 use Rattle.layout_lexer.proofs.Longest.{front_taken, begins_take, longest_len}
 use Rattle.layout_lexer.proofs.Names.{ReadsName, reads_name, kind_class, qualified_letter}

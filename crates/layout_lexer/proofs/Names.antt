@@ -10,8 +10,8 @@ use Rattle.layout_lexer.specs.contracts.byte_class.Class.{the_type}
 use Rattle.layout_lexer.specs.declared.byte_class.Class.{Class}
 use Rattle.layout_lexer.specs.declared.byte_class.Class.TheVariants.{Lower, Upper, Digit}
 use Rattle.layout_lexer.specs.Chars.{Text, class_of, is_in, is_letter, is_name_byte}
-use Rattle.layout_lexer.specs.Pieces.{name_from, name_end, name_kind}
 use Rattle.layout_lexer.specs.Spellings.{Begins, IsLongest, IsSimple, IsQualified, dotted, Each}
+use Rattle.layout_lexer.specs.Pieces.{name_from, name_end, name_kind}
 use Rattle.layout_lexer.proofs.Longest.{front_within, front_taken}
 use Rattle.layout_lexer.proofs.Classes.{is_in_its, its_class, lower_is_letter, upper_is_letter}
 

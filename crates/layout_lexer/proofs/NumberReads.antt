@@ -8,8 +8,10 @@ use Rattle.elm_base.specs.declared.fault.FaultKind.TheVariants as fault
 use Rattle.layout_lexer.specs.declared.byte_class.Class.TheVariants.{Digit}
 use Rattle.layout_lexer.specs.declared.literal.TheConstants.{MAX_INT}
 use Rattle.layout_lexer.specs.Chars.{Text, class_of, is_in}
-use Rattle.layout_lexer.specs.Pieces.{Read, number, goes_on, fits_from, token, piece}
-use Rattle.layout_lexer.specs.Spellings.{Begins, IsLongest, IsRun, value_from, value_of, Stands, int, Faulty, other_number, wide_number}
+use Rattle.layout_lexer.specs.Marks.{goes_on}
+use Rattle.layout_lexer.specs.Spellings.{Begins, IsLongest, IsRun, value_from, value_of}
+use Rattle.layout_lexer.specs.Tokens.{Stands, int, Faulty, other_number, wide_number}
+use Rattle.layout_lexer.specs.Pieces.{Read, number, fits_from, token, piece}
 use Rattle.layout_lexer.proofs.Classes.{its_class}
 use Rattle.layout_lexer.proofs.Longest.{front_taken, front_dropped, begins_take, longest_run, longest_run_len}
 use Rattle.layout_lexer.proofs.Dispatch.{Meets, by_plain_class}

@@ -11,8 +11,10 @@ use Rattle.layout_lexer.specs.declared.byte_class.Class.TheVariants.{Operator, L
 use Rattle.layout_lexer.specs.declared.byte_class.Run.TheVariants as over
 use Rattle.layout_lexer.specs.declared.name.TheConstants.{MAX_NAME}
 use Rattle.layout_lexer.specs.Chars.{Text, class_of, is_in, is_name_byte, past}
-use Rattle.layout_lexer.specs.Pieces.{Read, operator, label, run, token, is_listed, symbol_runs, piece, opens}
-use Rattle.layout_lexer.specs.Spellings.{Begins, IsLongest, IsRun, IsField, IsSimple, IsOperator, Stands, field, operator as operator_rule, Faulty, long_field, long_operator}
+use Rattle.layout_lexer.specs.Marks.{is_listed, symbol_runs, opens}
+use Rattle.layout_lexer.specs.Spellings.{Begins, IsLongest, IsRun, IsField, IsSimple, IsOperator}
+use Rattle.layout_lexer.specs.Tokens.{Stands, field, operator as operator_rule, Faulty, long_field, long_operator}
+use Rattle.layout_lexer.specs.Pieces.{Read, operator, label, run, token, piece}
 use Rattle.layout_lexer.proofs.Classes.{its_class, lower_is_letter}
 use Rattle.layout_lexer.proofs.Names.{letter_is_name}
 use Rattle.layout_lexer.proofs.Longest.{front_taken, begins_take, run_passes, run_within, longest_len, longest_run, longest_run_len}

@@ -10,8 +10,11 @@ use Rattle.layout_lexer.specs.declared.byte_class.Class.{Class}
 use Rattle.layout_lexer.specs.declared.byte_class.Class.TheVariants.{Quote, Lower, Upper, Digit, Apostrophe, White, Symbol, Operator, Other}
 use Rattle.layout_lexer.specs.declared.byte_class.TheConstants.{WHITE, SYMBOLS, OPERATORS}
 use Rattle.layout_lexer.specs.Chars.{Text, class_of, is_among}
-use Rattle.layout_lexer.specs.Pieces.{Read, quoted_text, quoted_from, text_of, is_escape, open_or_bad, token, piece, opens}
-use Rattle.layout_lexer.specs.Spellings.{Begins, IsLongest, Each, IsPlain, IsEscape, IsQuoted, IsText, EndsLine, EndsTextLine, joined_units, Stands, text as text_rule, Faulty, three_quotes, open_text, bad_escape}
+use Rattle.layout_lexer.specs.Marks.{is_escape, opens}
+use Rattle.layout_lexer.specs.Spellings.{Begins, IsLongest, Each, IsPlain, IsEscape, IsQuoted, IsText, joined_units}
+use Rattle.layout_lexer.specs.Comments.{EndsLine, EndsTextLine}
+use Rattle.layout_lexer.specs.Tokens.{Stands, text as text_rule, Faulty, three_quotes, open_text, bad_escape}
+use Rattle.layout_lexer.specs.Pieces.{Read, quoted_text, quoted_from, text_of, open_or_bad, token, piece}
 use Rattle.layout_lexer.proofs.Longest.{front_taken}
 use Rattle.layout_lexer.proofs.Dispatch.{Meets, by_plain_class, opens_shape}
 

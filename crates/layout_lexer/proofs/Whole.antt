@@ -13,9 +13,12 @@ use Rattle.layout_lexer.specs.declared.byte_class.Class.TheVariants.{White, Lowe
 use Rattle.layout_lexer.specs.declared.byte_class.TheConstants.{WHITE, SYMBOLS, OPERATORS}
 use Rattle.layout_lexer.specs.declared.piece.Piece.{Piece}
 use Rattle.layout_lexer.specs.Chars.{Text, class_of, is_in, is_among, is_letter}
-use Rattle.layout_lexer.specs.Pieces.{Read, piece, opens, by_class, name, number, quoted_text, character, operator, blank, token}
-use Rattle.layout_lexer.specs.Tokens.{Part, piece_of}
-use Rattle.layout_lexer.specs.Spellings.{Begins, IsLongest, IsQualified, IsSimple, IsName, IsRun, IsField, IsOperator, IsText, IsChar, dotted, blank_part, token_part, Stands, white, line_comment, comment, word, lower, upper, int, text as text_rule, char, field, operator as operator_rule, symbol, Faulty, open_comment, long_name, long_field, long_operator, other_number, wide_number, three_quotes, open_text, bad_escape, bad_char, no_token}
+use Rattle.layout_lexer.specs.Marks.{opens}
+use Rattle.layout_lexer.specs.Spellings.{Begins, IsLongest, IsQualified, IsSimple, IsName, IsRun, IsField, IsOperator, IsText, IsChar, dotted}
+use Rattle.layout_lexer.specs.Cuts.{Part}
+use Rattle.layout_lexer.specs.Tokens.{blank_part, token_part, Stands, white, line_comment, comment, word, lower, upper, int, text as text_rule, char, field, operator as operator_rule, symbol, Faulty, open_comment, long_name, long_field, long_operator, other_number, wide_number, three_quotes, open_text, bad_escape, bad_char, no_token}
+use Rattle.layout_lexer.specs.Pieces.{Read, piece, by_class, name, number, quoted_text, character, operator, blank, token}
+use Rattle.layout_lexer.specs.Scan.{piece_of}
 use Rattle.layout_lexer.proofs.Classes.{is_in_its, lower_is_letter, upper_is_letter}
 use Rattle.layout_lexer.proofs.Longest.{front_within, run_first}
 use Rattle.layout_lexer.proofs.Dispatch.{Meets, by_its_class, by_plain_class, no_comment, no_line_comment, opens_shape}
