@@ -1,5 +1,5 @@
 -- What has been read of a text so far.
-use Rattle.std.proofs.Common.{◌≡◌, ℕ, ◌+◌, Bool, true, false, List, [], ◌∷◌, ◌++◌, length, map, Option, Some, None, Ok, Err, refl, sym, ap, ◌∙◌, subst, append_assoc, append-nil, arith}
+use Rattle.std.proofs.Common.{◌≡◌, ℕ, ◌+◌, ◌<◌, Bool, true, false, List, [], ◌∷◌, ◌++◌, length, map, Option, Some, None, Ok, Err, refl, sym, ap, ◌∙◌, subst, append_assoc, append-nil, arith}
 use Rattle.std.specs.Str.{IsUtf8}
 use Rattle.elm_base.specs.declared.token.At.{At}
 use Rattle.elm_base.specs.declared.token.Token.{Token}
@@ -10,8 +10,10 @@ use Rattle.layout_lexer.specs.declared.piece.Piece.{Piece}
 use Rattle.layout_lexer.specs.declared.place.TextFault.{TextFault}
 use Rattle.layout_lexer.specs.Chars.{Text}
 use Rattle.layout_lexer.specs.Places.{place_after, steps}
+use Rattle.layout_lexer.specs.Lexemes.{Lexeme, lexeme, fault_after}
+use Rattle.layout_lexer.specs.Cuts.{Part, Cut, texts, joins, joined_after, lexemes, listed, HasNoTab, HasBadToken}
 use Rattle.layout_lexer.specs.Pieces.{piece}
-use Rattle.layout_lexer.specs.Tokens.{Part, Cut, texts, joins, joined_after, lexemes, listed, Lexeme, lexeme, Reads, Refuses, Scans, Stops, HasNoTab, HasBadToken, fault_after}
+use Rattle.layout_lexer.specs.Scan.{Reads, Refuses, Scans, Stops}
 use Rattle.layout_lexer.proofs.Places.{steps_more}
 
 -- ---- a part more
@@ -78,15 +80,15 @@ pub read_all : (text : Text) (found : List Lexeme) (at : At) (joined : Bool) (le
 read_all text found at joined left utf8 no_tab r e = record { utf8 = utf8; no_tab = no_tab; parts = r.parts; cut = subst (Cut Reads false text r.parts) e r.cut; same = r.same }
 
 pub read_fault : (text : Text) (found : List Lexeme) (at : At) (joined : Bool) (left : Text) (k : FaultKind) → IsUtf8 text → HasNoTab text
-    → Read text found at joined left → piece joined left ≡ Err k → HasBadToken Reads Refuses text (record { line = at.line; kind = k })
-read_fault text found at joined left k utf8 no_tab r e = record {
+    → Read text found at joined left → 0 < length left → piece joined left ≡ Err k → HasBadToken Reads Refuses text (record { line = at.line; kind = k })
+read_fault text found at joined left k utf8 no_tab r l e = record {
   utf8 = utf8;
   no_tab = no_tab;
   parts = r.parts;
   rest = left;
   cut = r.cut;
   kind = k;
-  faulty = (joined, e);
+  faulty = (joined, l, e);
   same = ap (λ (a : At). record { line = a.line; kind = k }) r.place;
 }
 

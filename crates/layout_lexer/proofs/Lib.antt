@@ -1,4 +1,16 @@
 pub mod Classes
 pub mod Lexing
+pub mod Longest
+pub mod Names
+pub mod NameReads
+pub mod NumberReads
+pub mod OperatorReads
+pub mod TextReads
+pub mod CharReads
+pub mod CommentReads
+pub mod Whole
+pub mod Laws
+pub mod Contract
+pub mod Dispatch
 pub mod Places
 pub mod Tabs

@@ -9,7 +9,8 @@ use Rattle.memchr.specs.Find.{IsFirst, Nowhere, NoneBefore, Passes, is_byte}
 use Rattle.elm_base.specs.declared.fault.FaultKind.TheVariants as fault
 use Rattle.layout_lexer.specs.declared.place.TextFault.{TextFault}
 use Rattle.layout_lexer.specs.Chars.{Text, is_among}
-use Rattle.layout_lexer.specs.Tokens.{HasNoTab, HasTab, HasBadByte, fault_after}
+use Rattle.layout_lexer.specs.Lexemes.{fault_after}
+use Rattle.layout_lexer.specs.Cuts.{HasNoTab, HasTab, HasBadByte}
 
 none_from_all : (text : Text) → ((k : ℕ) → k < length text → eqb (get_or text k 0) 9 ≡ true → ⊥) → HasNoTab text
 none_from_all [] f = refl

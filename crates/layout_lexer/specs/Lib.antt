@@ -1,4 +1,10 @@
 pub mod Chars
-pub mod Pieces
+pub mod Marks
 pub mod Places
+pub mod Lexemes
+pub mod Spellings
+pub mod Comments
+pub mod Cuts
 pub mod Tokens
+pub mod Pieces
+pub mod Scan

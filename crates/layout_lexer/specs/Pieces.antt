@@ -1,7 +1,5 @@
 -- The plain function that reads the piece at the front of a text.
 use Rattle.std.specs.Prelude.{ℕ, ◌+◌, ◌-◌, ◌*◌, Bool, true, false, not, ◌&&◌, ◌||◌, if◌then◌else◌, ◌==◌, nat_lt, List, [], ◌∷◌, length, take, drop, map, slice_index, Option, Some, None, Result, Ok, Err}
-use Rattle.std.specs.List.{list_any}
-use Rattle.std.specs.Cmp.Lexicographic.{pointwise}
 use Rattle.elm_base.specs.declared.token.TokenKind.{TokenKind}
 use Rattle.elm_base.specs.declared.token.TokenKind.TheVariants as kind
 use Rattle.elm_base.specs.declared.fault.FaultKind.{FaultKind}
@@ -10,9 +8,10 @@ use Rattle.layout_lexer.specs.declared.byte_class.Class.{Class}
 use Rattle.layout_lexer.specs.declared.byte_class.Class.TheVariants as class
 use Rattle.layout_lexer.specs.declared.byte_class.Run.TheVariants as over
 use Rattle.layout_lexer.specs.declared.piece.Piece.{Piece}
-use Rattle.layout_lexer.specs.declared.name.TheConstants.{WORDS, SYMBOL_RUNS, MAX_NAME}
-use Rattle.layout_lexer.specs.declared.literal.TheConstants.{MAX_INT, ESCAPES}
-use Rattle.layout_lexer.specs.Chars.{Text, class_of, is_in, is_letter, is_name_byte, is_among, past}
+use Rattle.layout_lexer.specs.declared.name.TheConstants.{MAX_NAME}
+use Rattle.layout_lexer.specs.declared.literal.TheConstants.{MAX_INT}
+use Rattle.layout_lexer.specs.Chars.{Text, class_of, is_in, is_letter, is_name_byte, past}
+use Rattle.layout_lexer.specs.Marks.{opens, is_listed, words, symbol_runs, goes_on, is_escape}
 
 abbrev pub Read : Type 0
 Read = Result Piece FaultKind
@@ -61,18 +60,6 @@ name_from upper at (b ∷ t) =
 abbrev pub name_end : Text → TokenKind × ℕ
 name_end text = name_from (is_in class.Upper (slice_index text 0)) 0 text
 
-abbrev pub is_same : Text → Text → Bool
-is_same = pointwise (λ a b. a == b)
-
-abbrev pub is_listed : List Text → Text → Bool
-is_listed list word = list_any (λ w. is_same w word) list
-
-abbrev pub words : List Text
-words = map (λ w. w.now) WORDS
-
-abbrev pub symbol_runs : List Text
-symbol_runs = map (λ w. w.now) SYMBOL_RUNS
-
 unfoldable pub name : Text → Read
 name text =
     let n = name_end text in
@@ -95,10 +82,6 @@ operator joined text = if slice_index text 0 == 46 && nat_lt 1 (length text) && 
 
 -- ---- numbers, texts, chars
 
--- what stands behind digits makes them a form that is left out
-abbrev pub goes_on : Text → Bool
-goes_on rest = is_letter (slice_index rest 0) || slice_index rest 0 == 95 || (slice_index rest 0 == 46 && is_in class.Digit (slice_index rest 1))
-
 abbrev pub fits_from : ℕ → Text → Bool
 fits_from value [] = true
 fits_from value (d ∷ ds) = let more = value * 10 + (d - 48) in if nat_lt MAX_INT more then false else fits_from more ds
@@ -108,9 +91,6 @@ number text =
     let len = past over.Digits text 0 in
     if goes_on (drop len text) then Err fault.Excluded
     else (if fits_from 0 (take len text) then Ok (token kind.Int len) else Err fault.IntTooWide)
-
-abbrev pub is_escape : ℕ → Bool
-is_escape b = is_among ESCAPES.now b
 
 abbrev pub open_or_bad : ℕ → FaultKind
 open_or_bad b = if b == 10 then fault.OpenString else fault.BadChar
@@ -153,9 +133,6 @@ by_class class.Other joined text = Err fault.BadChar
 
 unfoldable pub spelling : Bool → Text → Read
 spelling joined text = by_class (class_of (slice_index text 0)) joined text
-
-abbrev pub opens : ℕ → ℕ → Text → Bool
-opens a b text = slice_index text 0 == a && slice_index text 1 == b
 
 unfoldable pub piece : Bool → Text → Read
 piece joined text =

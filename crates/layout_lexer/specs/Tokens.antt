@@ -1,129 +1,75 @@
--- A text cut into tokens, white space and comments; the first fault of a text.
-use Rattle.std.specs.Prelude.{◌≡◌, ℕ, ⊤, Bool, true, false, ◌⊎◌, ◌==◌, ◌||◌, List, [], ◌∷◌, ◌++◌, take, length, map, Option, Some, None, Result, Ok, Err}
-use Rattle.std.specs.List.{flat_map}
-use Rattle.std.specs.Str.{IsUtf8, IsValidUpTo}
+-- What stands at the front of a text, or is wrong with it; the tokens of a text, and its first fault.
+use Rattle.std.specs.Prelude.{◌≡◌, ◌≢◌, ℕ, ◌+◌, ◌<◌, ◌≤◌, ⊤, Bool, true, false, if◌then◌else◌, List, [], ◌∷◌, ◌++◌, length, drop, Option, Some, None}
+use Rattle.std.specs.List.{list_all}
 use Rattle.elm_base.specs.declared.memory.Halt.{Halt}
 use Rattle.elm_base.specs.declared.memory.Halt.TheVariants as halt
-use Rattle.elm_base.specs.declared.token.At.{At}
-use Rattle.elm_base.specs.declared.token.Token.{Token}
 use Rattle.elm_base.specs.declared.token.TokenKind.{TokenKind}
 use Rattle.elm_base.specs.declared.token.TokenKind.TheVariants as kind
 use Rattle.elm_base.specs.declared.fault.FaultKind.{FaultKind}
 use Rattle.elm_base.specs.declared.fault.FaultKind.TheVariants as fault
+use Rattle.layout_lexer.specs.declared.byte_class.Class.TheVariants as class
+use Rattle.layout_lexer.specs.declared.name.TheConstants.{MAX_NAME}
+use Rattle.layout_lexer.specs.declared.literal.TheConstants.{MAX_INT}
 use Rattle.layout_lexer.specs.declared.place.TextFault.{TextFault}
-use Rattle.layout_lexer.specs.declared.piece.Piece.{Piece}
-use Rattle.layout_lexer.specs.Chars.{Text, is_among}
-use Rattle.layout_lexer.specs.Places.{place_after}
-use Rattle.layout_lexer.specs.Pieces.{piece}
+use Rattle.layout_lexer.specs.Chars.{Text, class_of}
+use Rattle.layout_lexer.specs.Marks.{opens, is_listed, words, symbol_runs, goes_on, is_escape}
+use Rattle.layout_lexer.specs.Spellings.{Begins, IsLongest, IsName, IsQualified, IsField, IsRun, IsOperator, value_of, IsText, IsQuoted, IsChar}
+use Rattle.layout_lexer.specs.Comments.{EndsLine, EndsTextLine, is_line_byte, Closes}
+use Rattle.layout_lexer.specs.Lexemes.{Lexeme}
+use Rattle.layout_lexer.specs.Cuts.{Part, TokensBy, FirstFaultBy}
 
--- a token without where it lies in memory
-pub record Lexeme : Type 0 where
-  pub kind : TokenKind
-  pub text : Text
-  pub line : ℕ
-  pub column : ℕ
+abbrev pub blank_part : Text → Part
+blank_part s = record { kind = None; text = s }
 
-abbrev pub lexeme : Token → Lexeme
-lexeme t = record { kind = t.kind; text = t.text.now; line = t.line; column = t.column }
+abbrev pub token_part : TokenKind → Text → Part
+token_part k s = record { kind = Some k; text = s }
 
--- a part of a text: a token of this kind, or white space or a comment
-pub record Part : Type 0 where
-  pub kind : Option TokenKind
-  pub text : Text
+-- The part stands at the front of the text. `joined` says whether a value ends directly before it.
+pub data Stands (joined : Bool) (text : Text) (part : Part) : Type 0 where
+  white : (b : ℕ) (rest : Text) → text ≡ b ∷ rest → class_of b ≡ class.White → part ≡ blank_part (b ∷ []) → Stands joined text part
+  line_comment : (line rest : Text) → text ≡ 45 ∷ 45 ∷ (line ++ rest) → list_all is_line_byte line ≡ true → EndsLine rest → part ≡ blank_part (45 ∷ 45 ∷ line) → Stands joined text part
+  comment : (inside after : Text) → text ≡ 123 ∷ 45 ∷ (inside ++ after) → Closes (inside ++ after) after → part ≡ blank_part (123 ∷ 45 ∷ inside) → Stands joined text part
+  word : (s : Text) → IsLongest IsName text s → length s ≤ MAX_NAME → is_listed words s ≡ true → part ≡ token_part kind.Word s → Stands joined text part
+  lower : (s : Text) → IsLongest IsName text s → length s ≤ MAX_NAME → is_listed words s ≡ false → IsQualified class.Lower s → part ≡ token_part kind.Lower s → Stands joined text part
+  upper : (s : Text) → IsLongest IsName text s → length s ≤ MAX_NAME → is_listed words s ≡ false → IsQualified class.Upper s → part ≡ token_part kind.Upper s → Stands joined text part
+  int : (s rest : Text) → IsLongest (IsRun class.Digit) text s → text ≡ s ++ rest → goes_on rest ≡ false → value_of s ≤ MAX_INT → part ≡ token_part kind.Int s → Stands joined text part
+  text : (s : Text) → opens 34 34 (drop 1 text) ≡ false → IsLongest IsText text s → part ≡ token_part kind.Text s → Stands joined text part
+  char : (s : Text) → IsLongest IsChar text s → part ≡ token_part kind.Char s → Stands joined text part
+  field : (s : Text) → IsLongest IsOperator text s → IsField s → length s ≤ MAX_NAME + 1 → part ≡ token_part (if joined then kind.Access else kind.FieldFunction) s → Stands joined text part
+  operator : (s : Text) → opens 45 45 text ≡ false → IsLongest IsOperator text s → IsRun class.Operator s → length s ≤ MAX_NAME
+      → part ≡ token_part (if is_listed symbol_runs s then kind.Symbol else kind.Operator) s → Stands joined text part
+  symbol : (b : ℕ) (rest : Text) → opens 123 45 text ≡ false → text ≡ b ∷ rest → class_of b ≡ class.Symbol → part ≡ token_part kind.Symbol (b ∷ []) → Stands joined text part
 
--- whether a `.` directly after this part reads a field of it
-abbrev pub is_value : TokenKind → Text → Bool
-is_value kind.Lower s = true
-is_value kind.Access s = true
-is_value kind.Symbol s = is_among s 41 || is_among s 125
-is_value k s = false
+-- A token or comment begins at the front of the text, and this is wrong with it.
+pub data Faulty (text : Text) (k : FaultKind) : Type 0 where
+  open_comment : opens 123 45 text ≡ true → ((after : Text) → ¬ (Closes (drop 2 text) after)) → k ≡ fault.OpenComment → Faulty text k
+  long_name : (s : Text) → IsLongest IsName text s → MAX_NAME < length s → k ≡ fault.TooLarge → Faulty text k
+  long_field : (s : Text) → IsLongest IsOperator text s → IsField s → MAX_NAME + 1 < length s → k ≡ fault.TooLarge → Faulty text k
+  long_operator : (s : Text) → opens 45 45 text ≡ false → IsLongest IsOperator text s → IsRun class.Operator s → MAX_NAME < length s → k ≡ fault.TooLarge → Faulty text k
+  other_number : (s rest : Text) → IsLongest (IsRun class.Digit) text s → text ≡ s ++ rest → goes_on rest ≡ true → k ≡ fault.Excluded → Faulty text k
+  wide_number : (s rest : Text) → IsLongest (IsRun class.Digit) text s → text ≡ s ++ rest → goes_on rest ≡ false → MAX_INT < value_of s → k ≡ fault.IntTooWide → Faulty text k
+  three_quotes : (rest : Text) → text ≡ 34 ∷ 34 ∷ 34 ∷ rest → k ≡ fault.Excluded → Faulty text k
+  open_text : (inside rest : Text) → text ≡ 34 ∷ (inside ++ rest) → IsQuoted inside → EndsTextLine rest → k ≡ fault.OpenString → Faulty text k
+  bad_escape : (inside rest : Text) (b : ℕ) → text ≡ 34 ∷ (inside ++ 92 ∷ b ∷ rest) → IsQuoted inside → is_escape b ≡ false → b ≢ 10 → k ≡ fault.BadChar → Faulty text k
+  bad_char : (rest : Text) → text ≡ 39 ∷ rest → ((s : Text) → Begins s text → ¬ (IsChar s)) → k ≡ fault.BadChar → Faulty text k
+  no_token : (b : ℕ) (rest : Text) → text ≡ b ∷ rest → class_of b ≡ class.Other → k ≡ fault.BadChar → Faulty text k
 
-abbrev pub joins : Option TokenKind → Text → Bool
-joins None s = false
-joins (Some k) s = is_value k s
+-- ---- the whole text
 
-abbrev pub texts : List Part → Text
-texts parts = flat_map (λ p. p.text) parts
+-- the list is the tokens of the text
+abbrev pub Tokens : Text → List Lexeme → Type 0
+Tokens = TokensBy Stands Faulty
 
--- whether a value ends directly after these parts
-abbrev pub joined_after : Bool → List Part → Bool
-joined_after joined [] = joined
-joined_after joined (p ∷ ps) = joined_after (joins p.kind p.text) ps
+-- the fault is the first of the text
+abbrev pub FirstFault : Text → TextFault → Type 0
+FirstFault = FirstFaultBy Stands Faulty
 
--- The parts are the front of the text, in order, and each stands at its place by the rule. The rule knows whether a value ends directly before the place.
-abbrev pub Cut : (Bool → Text → Part → Type 0) → Bool → Text → List Part → Text → Type 0
-Cut Stands joined text [] after = text ≡ after
-Cut Stands joined text (p ∷ ps) after = (rest : Text) × (text ≡ p.text ++ rest) × Stands joined text p × Cut Stands (joins p.kind p.text) rest ps after
+-- ---- for contracts
 
-abbrev pub listed : Option TokenKind → Text → At → List Lexeme → List Lexeme
-listed None s at more = more
-listed (Some k) s at more = record { kind = k; text = s; line = at.line; column = at.column } ∷ more
-
--- the tokens among the parts, each at the place after all that stands before it
-abbrev pub lexemes : Text → List Part → List Lexeme
-lexemes before [] = []
-lexemes before (p ∷ ps) = listed p.kind p.text (place_after before) (lexemes (before ++ p.text) ps)
-
-abbrev pub fault_after : Text → FaultKind → TextFault
-fault_after before k = record { line = (place_after before).line; kind = k }
-
--- the text isn't UTF-8: the fault is at its first bad byte
-pub record HasBadByte (text : Text) (f : TextFault) : Type 0 where
-  pub place : ℕ
-  pub bad : IsValidUpTo text place
-  pub same : f ≡ fault_after (take place text) fault.NotUtf8
-
-abbrev pub HasNoTab : Text → Type 0
-HasNoTab text = is_among text 9 ≡ false
-
--- the text is UTF-8 and has a tab: the fault is at the first
-pub record HasTab (text : Text) (f : TextFault) : Type 0 where
-  pub utf8 : IsUtf8 text
-  pub before : Text
-  pub after : Text
-  pub split : text ≡ before ++ 9 ∷ after
-  pub first : HasNoTab before
-  pub same : f ≡ fault_after before fault.Tab
-
-module _ (Stands : Bool → Text → Part → Type 0) (Faulty : Text → FaultKind → Type 0) where
-  -- the list is the tokens of the text
-  pub record TokensBy (text : Text) (list : List Lexeme) : Type 0 where
-    pub utf8 : IsUtf8 text
-    pub no_tab : HasNoTab text
-    pub parts : List Part
-    pub cut : Cut Stands false text parts []
-    pub same : list ≡ lexemes [] parts
-
-  -- no fault stands before the first token or comment that is faulty
-  pub record HasBadToken (text : Text) (f : TextFault) : Type 0 where
-    pub utf8 : IsUtf8 text
-    pub no_tab : HasNoTab text
-    pub parts : List Part
-    pub rest : Text
-    pub cut : Cut Stands false text parts rest
-    pub kind : FaultKind
-    pub faulty : Faulty rest kind
-    pub same : f ≡ fault_after (texts parts) kind
-
-  abbrev pub FirstFaultBy : Text → TextFault → Type 0
-  FirstFaultBy text f = HasBadByte text f ⊎ (HasTab text f ⊎ HasBadToken text f)
-
--- ---- by the plain function
-
-abbrev pub piece_of : Part → Piece
-piece_of p = record { kind = p.kind; len = length p.text }
-
-abbrev pub Reads : Bool → Text → Part → Type 0
-Reads joined text p = piece joined text ≡ Ok (piece_of p)
-
-abbrev pub Refuses : Text → FaultKind → Type 0
-Refuses text k = (joined : Bool) × (piece joined text ≡ Err k)
-
-abbrev pub Scans : Text → List Lexeme → Type 0
-Scans = TokensBy Reads Refuses
-
-abbrev pub Stops : Text → TextFault → Type 0
-Stops = FirstFaultBy Reads Refuses
+-- the spellings are slices of the text, in order
+abbrev pub AreSlices : Text → List Lexeme → Type 0
+AreSlices whole [] = ⊤
+AreSlices whole (t ∷ ts) = (before : Text) × (rest : Text) × (whole ≡ before ++ t.text ++ rest) × AreSlices rest ts
 
 abbrev pub OnBecause : {E : Type 0} → Halt E → (E → Type 0) → Type 0
 OnBecause (halt.Because e) P = P e

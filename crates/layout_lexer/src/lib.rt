@@ -3,14 +3,16 @@
 
 mod blank;
 mod byte_class;
+mod lexer;
 mod literal;
 mod name;
 mod piece;
 mod place;
-mod scan;
 
+
+pub use lexer::{one_reading, tokens};
 pub use place::TextFault;
-pub use scan::tokens;
+
 
 #[cfg(test)]
 mod tests;

@@ -2,6 +2,7 @@
 
 ghost use Rattle.std.specs.Prelude.{◌≡◌, ◌<◌, ◌≤◌, ◌+◌, length, slice_index, IfOk, true, false};
 ghost use Rattle.layout_lexer.specs.Chars.{is_in as is_in_class};
+ghost use Rattle.layout_lexer.specs.Marks as marks;
 ghost use Rattle.layout_lexer.specs.Pieces as spec;
 
 use crate::byte_class::{Class, Run, byte, is_in, is_letter, past};
@@ -32,7 +33,7 @@ pub fn number(text: &[u8]) -> Result<Piece, FaultKind>
 }
 
 fn goes_on(rest: &[u8]) -> bool
-    ensures { result ≡ spec.goes_on rest.now }
+    ensures { result ≡ marks.goes_on rest.now }
 {
     let next = byte(rest, 0);
     is_letter(next) || next == b'_' || (next == b'.' && is_in(Class::Digit, byte(rest, 1)))
@@ -108,7 +109,7 @@ fn open_or_bad(byte: u8) -> FaultKind
 }
 
 fn is_escape(byte: u8) -> bool
-    ensures { result ≡ spec.is_escape byte }
+    ensures { result ≡ marks.is_escape byte }
 {
     ESCAPES.contains(&byte)
 }

@@ -2,6 +2,7 @@
 
 ghost use Rattle.std.specs.Prelude.{◌≡◌, ◌<◌, ◌≤◌, length, map, slice_index, IfOk, true};
 ghost use Rattle.layout_lexer.specs.Chars.{is_letter, is_in as is_in_class};
+ghost use Rattle.layout_lexer.specs.Marks as marks;
 ghost use Rattle.layout_lexer.specs.Pieces as spec;
 
 use crate::byte_class::{Class, Run, byte, is_in, is_letter, is_name_byte, past};
@@ -85,7 +86,7 @@ fn name_kind(is_upper: bool) -> TokenKind
 }
 
 fn is_listed(mut list: &[&[u8]], word: &[u8]) -> bool
-    ensures { result ≡ spec.is_listed (map (λ w. w.now) list.entry.now) word.now }
+    ensures { result ≡ marks.is_listed (map (λ w. w.now) list.entry.now) word.now }
 {
     while let [first, rest @ ..] = list {
         if is_same(first, word) {
@@ -97,7 +98,7 @@ fn is_listed(mut list: &[&[u8]], word: &[u8]) -> bool
 }
 
 fn is_same(a: &[u8], b: &[u8]) -> bool
-    ensures { result ≡ spec.is_same a.now b.now }
+    ensures { result ≡ marks.is_same a.now b.now }
 {
     a == b
 }

@@ -1,14 +1,15 @@
 use crate::{TextFault, tokens};
 use elm_base::{FaultKind, Halt, Token, TokenKind};
+use std::alloc::Global;
 use std::process::Abort;
-use std::rt::Alloc;
+
 use std::test::Fail;
 
 /// A token as a row gives it: kind, spelling, line, column.
 type Row = (TokenKind, &'static str, u32, u32);
 
-fn reads(rt: &(impl Abort + Alloc), text: &str, rows: &[Row]) {
-    match tokens(rt.alloc(), text.as_bytes()) {
+fn reads(rt: &impl Abort, alloc: Global, text: &str, rows: &[Row]) {
+    match tokens(alloc, text.as_bytes()) {
         Ok(found) => {
             assert_eq!(rt; found.len(), rows.len(), "in {text:?}");
             for (token, row) in found.iter().zip(rows) {
@@ -22,8 +23,8 @@ fn reads(rt: &(impl Abort + Alloc), text: &str, rows: &[Row]) {
     }
 }
 
-fn refuses(rt: &(impl Abort + Alloc), text: &[u8], line: u32, kind: FaultKind) {
-    match tokens(rt.alloc(), text) {
+fn refuses(rt: &impl Abort, alloc: Global, text: &[u8], line: u32, kind: FaultKind) {
+    match tokens(alloc, text) {
         Err(Halt::Because(fault)) => assert!(rt; fault == TextFault { line, kind }, "in {text:?}"),
         _ => assert!(rt; false, "in {text:?}"),
     }
@@ -129,7 +130,7 @@ fn tokens_of_each_kind(rt: HostRuntime) -> Result<(), Fail> {
         ("if.x", &[(Word, "if", 1, 1), (FieldFunction, ".x", 1, 3)]),
     ];
     for row in &rows {
-        reads(&rt, row.0, row.1);
+        reads(&rt, rt.alloc(), row.0, row.1);
     }
     Ok(())
 }
@@ -168,7 +169,7 @@ fn faults_of_each_kind(rt: HostRuntime) -> Result<(), Fail> {
         (b"?\n\t", 2, Tab),
     ];
     for row in &rows {
-        refuses(&rt, row.0, row.1, row.2);
+        refuses(&rt, rt.alloc(), row.0, row.1, row.2);
     }
     Ok(())
 }

@@ -1,5 +1,5 @@
 use Rattle.std.proofs.Common.{◌≡◌, length, map}
-use Rattle.layout_lexer.specs.Pieces.{is_listed}
+use Rattle.layout_lexer.specs.Marks.{is_listed}
 use Rattle.layout_lexer.proofs.name.is_listed.Given as goal
 
 abbrev pub invariant-loop-list : goal.invariant-loop-list

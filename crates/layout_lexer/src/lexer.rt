@@ -1,8 +1,14 @@
 //! A text from its first token to its last.
 
-ghost use Rattle.std.specs.Prelude.{◌≡◌, ◌⊎◌, map, IfOk, IfErr, MatchOption};
+ghost use Rattle.std.specs.Prelude.{◌≡◌, ◌⊎◌, List, map, IfOk, IfErr, MatchOption, MatchResult};
 ghost use Rattle.std.specs.Str.{IsUtf8};
-ghost use Rattle.layout_lexer.specs.Tokens.{lexeme, joins as joins_of, is_value as is_value_of, fault_after as fault_after_of, HasNoTab, HasBadByte, HasTab, Scans, Stops, OnBecause};
+ghost use Rattle.elm_base.specs.declared.memory.Halt.TheVariants as halts;
+ghost use Rattle.layout_lexer.specs.declared.place.TextFault.{TextFault};
+ghost use Rattle.layout_lexer.specs.Chars.{Text};
+ghost use Rattle.layout_lexer.specs.Lexemes.{Lexeme, lexeme, fault_after as fault_after_of};
+ghost use Rattle.layout_lexer.specs.Cuts.{joins as joins_of, is_value as is_value_of, HasNoTab, HasBadByte, HasTab};
+ghost use Rattle.layout_lexer.specs.Tokens.{Tokens, FirstFault, AreSlices, OnBecause};
+ghost use Rattle.layout_lexer.specs.Scan.{Scans, Stops};
 
 use crate::piece::next_piece;
 use crate::place::{TextFault, place_from, start};
@@ -11,8 +17,31 @@ use memchr::memchr;
 use std::alloc::Global;
 use std::str;
 
-/// The tokens of the text.
+/// The tokens of the text, in order, or its first fault. Lines and columns count from 1, columns in
+/// chars, and a count stands still at the greatest `u32`. A byte that isn't UTF-8 comes before a tab, a
+/// tab before all other faults, and of these the first in the text comes first; each is reported at the
+/// line where its token or comment begins, or where the byte or tab stands.
 pub fn tokens(alloc: Global, text: &[u8]) -> Result<Vec<Token<'_>>, Halt<TextFault>>
+    ensures listed { IfOk result (λ found. Tokens text.now (map lexeme found.items)) }
+    ensures slices { IfOk result (λ found. AreSlices text.now (map lexeme found.items)) }
+    ensures refused { IfErr result (λ halt. OnBecause halt (λ fault. FirstFault text.now fault)) }
+
+    // What has tokens gives them, and what has a fault gives it, or memory runs out.
+    ensures exact { (list : List Lexeme) → Tokens text.now list → MatchResult result (λ found. map lexeme found.items ≡ list) (λ halt. halt ≡ halts.NoMemory) }
+    ensures faulty { (fault : TextFault) → FirstFault text.now fault → MatchResult result (λ _. ⊥) (λ halt. (halt ≡ halts.Because fault) ⊎ (halt ≡ halts.NoMemory)) }
+{
+    scan(alloc, text)
+}
+
+/// Each text has one list of tokens or one first fault, and not both.
+pub fn one_reading()
+    ensures some { (text : Text) → ((list : List Lexeme) × Tokens text list) ⊎ ((fault : TextFault) × FirstFault text fault) }
+    ensures one_list { (text : Text) (list other : List Lexeme) → Tokens text list → Tokens text other → list ≡ other }
+    ensures one_fault { (text : Text) (fault other : TextFault) → FirstFault text fault → FirstFault text other → fault ≡ other }
+    ensures not_both { (text : Text) (list : List Lexeme) (fault : TextFault) → Tokens text list → FirstFault text fault → ⊥ }
+{}
+
+fn scan(alloc: Global, text: &[u8]) -> Result<Vec<Token<'_>>, Halt<TextFault>>
     ensures listed { IfOk result (λ found. Scans text.now (map lexeme found.items)) }
     ensures refused { IfErr result (λ halt. OnBecause halt (λ fault. Stops text.now fault)) }
 {

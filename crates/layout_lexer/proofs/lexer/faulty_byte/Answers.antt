@@ -1,7 +1,7 @@
 use Rattle.std.proofs.Common.{inr, subst, sym}
-use Rattle.layout_lexer.specs.Tokens.{HasTab}
+use Rattle.layout_lexer.specs.Cuts.{HasTab}
 use Rattle.layout_lexer.proofs.Tabs.{no_tab, first_tab}
-use Rattle.layout_lexer.proofs.scan.faulty_byte.Goals as goal
+use Rattle.layout_lexer.proofs.lexer.faulty_byte.Goals as goal
 
 pub returns-in-None : goal.returns-in-None
 returns-in-None c = (c.in_default.ensures.cases.1, no_tab c.args.text.now c.in-None.ensures)

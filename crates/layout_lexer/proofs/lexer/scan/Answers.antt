@@ -1,10 +1,11 @@
 use Rattle.std.proofs.Common.{◌≡◌, map, List, [], ◌∷◌, ◌++◌, sym, ap, ◌∙◌, append-nil, take-append-drop}
 use Rattle.std.specs.Prelude.{Option}
 use Rattle.elm_base.specs.declared.token.TokenKind.{TokenKind}
-use Rattle.layout_lexer.specs.Tokens.{lexeme, Lexeme, listed}
+use Rattle.layout_lexer.specs.Lexemes.{lexeme, Lexeme}
+use Rattle.layout_lexer.specs.Cuts.{listed}
 use Rattle.layout_lexer.proofs.Lexing.{read_next, pushed}
-use Rattle.layout_lexer.proofs.scan.tokens.Goals as goal
-use Rattle.layout_lexer.proofs.scan.tokens.Goals.{in-Some-kind+in_ok-push, in_default-kind}
+use Rattle.layout_lexer.proofs.lexer.scan.Goals as goal
+use Rattle.layout_lexer.proofs.lexer.scan.Goals.{in-Some-kind+in_ok-push, in_default-kind}
 
 pub loop-left-preserved : goal.loop-left-preserved
 loop-left-preserved c =

@@ -1,7 +1,7 @@
 use Rattle.std.proofs.Common.{map, length}
-use Rattle.layout_lexer.specs.Tokens.{lexeme}
+use Rattle.layout_lexer.specs.Lexemes.{lexeme}
 use Rattle.layout_lexer.proofs.Lexing.{Read}
-use Rattle.layout_lexer.proofs.scan.tokens.Given as goal
+use Rattle.layout_lexer.proofs.lexer.scan.Given as goal
 
 abbrev pub invariant-loop-left : goal.invariant-loop-left
 invariant-loop-left l = Read l.text (map lexeme l.found.items) l.at l.is_joined l.left

@@ -1,0 +1,124 @@
+-- The spellings of each kind of token, and which of them stands at a place.
+use Rattle.std.specs.Prelude.{◌≡◌, ◌≢◌, ℕ, zero, suc, ◌+◌, ◌-◌, ◌*◌, ◌<◌, ◌≤◌, ⊤, Bool, true, false, not, ◌==◌, ◌⊎◌, if◌then◌else◌, List, [], ◌∷◌, ◌++◌, length, drop, Option, Some, None}
+use Rattle.std.specs.List.{list_all}
+use Rattle.elm_base.specs.declared.token.TokenKind.{TokenKind}
+use Rattle.elm_base.specs.declared.token.TokenKind.TheVariants as kind
+use Rattle.elm_base.specs.declared.fault.FaultKind.{FaultKind}
+use Rattle.elm_base.specs.declared.fault.FaultKind.TheVariants as fault
+use Rattle.layout_lexer.specs.declared.byte_class.Class.{Class}
+use Rattle.layout_lexer.specs.declared.byte_class.Class.TheVariants as class
+use Rattle.layout_lexer.specs.declared.name.TheConstants.{MAX_NAME}
+use Rattle.layout_lexer.specs.declared.literal.TheConstants.{MAX_INT}
+use Rattle.layout_lexer.specs.Chars.{Text, class_of, is_in, is_name_byte, is_continuation}
+use Rattle.layout_lexer.specs.Marks.{opens, is_listed, words, symbol_runs, goes_on, is_escape}
+use Rattle.layout_lexer.specs.Lexemes.{Lexeme}
+use Rattle.layout_lexer.specs.Cuts.{Part, TokensBy, FirstFaultBy}
+use Rattle.layout_lexer.specs.declared.place.TextFault.{TextFault}
+
+-- the text begins with s
+abbrev pub Begins : Text → Text → Type 0
+Begins s text = (rest : Text) × (text ≡ s ++ rest)
+
+-- s is the longest of these spellings with which the text begins
+pub record IsLongest (Spells : Text → Type 0) (text s : Text) : Type 0 where
+  pub spells : Spells s
+  pub front : Begins s text
+  pub longest : (t : Text) → Begins t text → Spells t → length t ≤ length s
+
+abbrev pub Each : (Text → Type 0) → List Text → Type 0
+Each P [] = ⊤
+Each P (x ∷ xs) = P x × Each P xs
+
+-- ---- names
+
+-- one letter of the class, and then letters, digits, `_` and `'`
+pub record IsSimple (c : Class) (s : Text) : Type 0 where
+  pub first : ℕ
+  pub more : Text
+  pub split : s ≡ first ∷ more
+  pub begins : is_in c first ≡ true
+  pub goes : list_all is_name_byte more ≡ true
+
+abbrev pub dotted : List Text → Text → Text
+dotted [] s = s
+dotted (u ∷ us) s = u ++ 46 ∷ dotted us s
+
+-- names of modules and a name of the class, joined by points
+pub record IsQualified (c : Class) (s : Text) : Type 0 where
+  pub modules : List Text
+  pub last : Text
+  pub upper : Each (IsSimple class.Upper) modules
+  pub simple : IsSimple c last
+  pub split : s ≡ dotted modules last
+
+abbrev pub IsName : Text → Type 0
+IsName s = IsQualified class.Lower s ⊎ IsQualified class.Upper s
+
+-- ---- a point with a label, and runs of operator bytes
+
+pub record IsField (s : Text) : Type 0 where
+  pub label : Text
+  pub split : s ≡ 46 ∷ label
+  pub simple : IsSimple class.Lower label
+
+abbrev pub IsRun : Class → Text → Type 0
+IsRun c s = (0 < length s) × (list_all (is_in c) s ≡ true)
+
+abbrev pub IsOperator : Text → Type 0
+IsOperator s = IsRun class.Operator s ⊎ IsField s
+
+-- ---- numbers
+
+abbrev pub value_from : ℕ → Text → ℕ
+value_from v [] = v
+value_from v (d ∷ ds) = value_from (v * 10 + (d - 48)) ds
+
+-- the number that the digits write
+abbrev pub value_of : Text → ℕ
+value_of digits = value_from 0 digits
+
+-- ---- texts and chars
+
+-- a backslash and a byte that may follow it
+pub record IsEscape (s : Text) : Type 0 where
+  pub byte : ℕ
+  pub split : s ≡ 92 ∷ byte ∷ []
+  pub known : is_escape byte ≡ true
+
+-- a byte of a text other than `"`, the backslash and the newline
+pub record IsPlain (s : Text) : Type 0 where
+  pub byte : ℕ
+  pub split : s ≡ byte ∷ []
+  pub no_quote : byte ≢ 34
+  pub no_backslash : byte ≢ 92
+  pub no_newline : byte ≢ 10
+
+abbrev pub joined_units : List Text → Text
+joined_units [] = []
+joined_units (u ∷ us) = u ++ joined_units us
+
+-- what may stand between double quotes, on one line
+pub record IsQuoted (s : Text) : Type 0 where
+  pub units : List Text
+  pub each : Each (λ u. IsPlain u ⊎ IsEscape u) units
+  pub split : s ≡ joined_units units
+
+pub record IsText (s : Text) : Type 0 where
+  pub inside : Text
+  pub split : s ≡ 34 ∷ (inside ++ 34 ∷ [])
+  pub quoted : IsQuoted inside
+
+-- one char other than `'`, the backslash and the newline: a byte, and the bytes that go on with it
+pub record IsOneChar (s : Text) : Type 0 where
+  pub byte : ℕ
+  pub more : Text
+  pub split : s ≡ byte ∷ more
+  pub no_quote : byte ≢ 39
+  pub no_backslash : byte ≢ 92
+  pub no_newline : byte ≢ 10
+  pub goes : list_all is_continuation more ≡ true
+
+pub record IsChar (s : Text) : Type 0 where
+  pub inside : Text
+  pub split : s ≡ 39 ∷ (inside ++ 39 ∷ [])
+  pub one : IsOneChar inside ⊎ IsEscape inside
