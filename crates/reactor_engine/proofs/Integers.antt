@@ -36,16 +36,16 @@ map_test f n false = refl
 read_number : {E : Type 0} (r : Result ℤ E) (f : ℕ → ℤ) (most : ℕ) (digits : List ℕ) → OkIff r ((all_ascii_digits digits ≡ true) × (0 < length digits) × (digits_value 10 digits ≤ most)) (f (digits_value 10 digits)) → result_ok r ≡ option_map f (number_up_to most digits)
 read_number r f most digits h =
     by_test r _ (f (digits_value 10 digits)) (is_numeral digits && leb (digits_value 10 digits) most)
-      (λ passes.
-        let parts = both_true (is_numeral digits) (leb (digits_value 10 digits) most) passes in
-        let numeral = both_true (leb 1 (length digits)) (all_ascii_digits digits) parts.0 in
-        let some : 1 ≤ length digits = leb-true 1 (length digits) numeral.0 in
-        (numeral.1, omega arith, leb-true (digits_value 10 digits) most parts.1))
-      (λ holds.
-        and_true (is_numeral digits) (leb (digits_value 10 digits) most)
-          (and_true (leb 1 (length digits)) (all_ascii_digits digits) (le-leb 1 (length digits) (omega (arith, holds.1))) holds.0)
-          (le-leb (digits_value 10 digits) most holds.2))
-      h
+    (λ passes.
+    let parts = both_true (is_numeral digits) (leb (digits_value 10 digits) most) passes in
+    let numeral = both_true (leb 1 (length digits)) (all_ascii_digits digits) parts.0 in
+    let some : 1 ≤ length digits = leb-true 1 (length digits) numeral.0 in
+    (numeral.1, omega arith, leb-true (digits_value 10 digits) most parts.1))
+    (λ holds.
+    and_true (is_numeral digits) (leb (digits_value 10 digits) most)
+    (and_true (leb 1 (length digits)) (all_ascii_digits digits) (le-leb 1 (length digits) (omega (arith, holds.1))) holds.0)
+    (le-leb (digits_value 10 digits) most holds.2))
+    h
     ∙ sym (map_test f (digits_value 10 digits) (is_numeral digits && leb (digits_value 10 digits) most))
 
 ok_iff_same : {E : Type 0} (r : Result ℤ E) (P Q : Type 0) (x : ℤ) → (P → Q) → (Q → P) → OkIff r P x → OkIff r Q x
@@ -56,14 +56,14 @@ by_sign : {E : Type 0} (first : ℕ) (rest : List ℕ) (r : Result ℤ E) (test 
 by_sign first rest r true is plain h = read_number r (λ n. neg_ℤ (pos n)) 9223372036854775808 rest (parse_signed_minus own w64 (first ∷ rest) r h (eqb-true first 45 is))
 by_sign first rest r false is plain h =
     read_number r pos 9223372036854775807 (first ∷ rest)
-      (ok_iff_same r _ _ _ (λ p. (p.0, p.1, omega (arith, p.2))) (λ p. (p.0, p.1, omega (arith, p.2)))
-        (parse_signed_plain own w64 (first ∷ rest) r h plain (eqb-false first 45 is)))
+    (ok_iff_same r _ _ _ (λ p. (p.0, p.1, omega (arith, p.2))) (λ p. (p.0, p.1, omega (arith, p.2)))
+    (parse_signed_plain own w64 (first ∷ rest) r h plain (eqb-false first 45 is)))
 
 pub integer_by_parse : {E : Type 0} (text : List ℕ) (r : Result ℤ E) → get_or text 0 0 ≢ 43 → ParsesSigned w64 10 text r → result_ok r ≡ integer_of text
 integer_by_parse [] r plain h =
     read_number r pos 9223372036854775807 []
-      (ok_iff_same r _ _ _ (λ p. (p.0, p.1, omega (arith, p.2))) (λ p. (p.0, p.1, omega (arith, p.2)))
-        (parse_signed_plain own w64 [] r h plain (λ e. omega (arith, e))))
+    (ok_iff_same r _ _ _ (λ p. (p.0, p.1, omega (arith, p.2))) (λ p. (p.0, p.1, omega (arith, p.2)))
+    (parse_signed_plain own w64 [] r h plain (λ e. omega (arith, e))))
 integer_by_parse (first ∷ rest) r plain h = by_sign first rest r (eqb first 45) refl plain h
 
 false_numeral : (a : Bool) (digits : List ℕ) → all_ascii_digits digits ≡ false → a && all_ascii_digits digits ≡ false
@@ -91,13 +91,12 @@ none_by_sign first rest true is other =
     let sign : first ≡ 45 = eqb-true first 45 is in
     let low : first < 128 = omega arith in
     none_unless_utf8 (λ n. neg_ℤ (pos n)) 9223372036854775808 rest (all_ascii_digits rest) refl
-      (λ ascii. other (IsUtf8-from_ascii (first ∷ rest) (ascii_cons first rest low ascii)))
+    (λ ascii. other (IsUtf8-from_ascii (first ∷ rest) (ascii_cons first rest low ascii)))
 none_by_sign first rest false is other =
     none_unless_utf8 pos 9223372036854775807 (first ∷ rest) (all_ascii_digits (first ∷ rest)) refl
-      (λ ascii. other (IsUtf8-from_ascii (first ∷ rest) ascii))
+    (λ ascii. other (IsUtf8-from_ascii (first ∷ rest) ascii))
 
 -- what isn't UTF-8 is no integer
 pub not_utf8_is_none : (text : List ℕ) → (IsUtf8 text → ⊥) → integer_of text ≡ None
 not_utf8_is_none [] other = refl
 not_utf8_is_none (first ∷ rest) other = none_by_sign first rest (eqb first 45) refl other
-

@@ -53,6 +53,6 @@ answers_input port name text before after events number files new_state same is 
     let step_is = accepted files port name text events number same is in (
       shows.0 ∙ ap (λ (step : Step). step.state) (sym step_is),
       shows.1
-      ∙ ap (λ state. before ++ frame_of state) shows.0
-      ∙ ap (λ (step : Step). before ++ answer_text step.state step.answer) (sym step_is),
+          ∙ ap (λ state. before ++ frame_of state) shows.0
+          ∙ ap (λ (step : Step). before ++ answer_text step.state step.answer) (sym step_is),
     )

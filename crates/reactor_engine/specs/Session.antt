@@ -26,11 +26,11 @@ state_of session files = record {
 -- From one session to the next by this line's command, with the answer written behind what was written before.
 abbrev pub Answers : Session → Option Command → Session → List ℕ → List ℕ → Type 0
 Answers old command new before after = (files : Files) →
-  let step = next_line (state_of old files) command None in
-  (state_of new files ≡ step.state) × (after ≡ before ++ answer_text step.state step.answer)
+    let step = next_line (state_of old files) command None in
+    (state_of new files ≡ step.state) × (after ≡ before ++ answer_text step.state step.answer)
 
 -- From one session to the next by one recorded integer, with the frame written behind what was written before.
 abbrev pub Shows : Session → List ℕ → ℤ → Session → List ℕ → List ℕ → Type 0
 Shows old name number new before after = (files : Files) →
-  (state_of new files ≡ (recorded (state_of old files) (integer_event name number)).state)
-  × (after ≡ before ++ frame_of (state_of new files))
+    (state_of new files ≡ (recorded (state_of old files) (integer_event name number)).state)
+    × (after ≡ before ++ frame_of (state_of new files))

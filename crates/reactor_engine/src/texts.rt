@@ -9,7 +9,12 @@ use elm_base::{CommandRefusal, FaultKind, Name, NoMemory, PortType, ProjectFault
 use itoa::Buffer;
 
 /// Appends the frame of one row.
-pub fn push_frame(cursor: usize, events: usize, row: &[u8], out: &mut Vec<u8>) -> Result<(), NoMemory>
+pub fn push_frame(
+    cursor: usize,
+    events: usize,
+    row: &[u8],
+    out: &mut Vec<u8>,
+) -> Result<(), NoMemory>
     ensures { OnOk result (out.new.items ≡ out.old.items ++ frame_text (record { cursor = cursor; events = events; rows = row.now ∷ [] })) }
 {
     out.extend_from_slice(b"at ")?;
@@ -67,7 +72,11 @@ fn push_refusal_text(refusal: &CommandRefusal, out: &mut Vec<u8>) -> Result<(), 
     ensures { OnOk result (out.new.items ≡ out.old.items ++ refusal_text refusal.now) }
 {
     match refusal {
-        CommandRefusal::UnknownInput { name } => push_two(b"refused UnknownInput ", name.bytes(), out),
+        CommandRefusal::UnknownInput { name } => push_two(
+            b"refused UnknownInput ",
+            name.bytes(),
+            out,
+        ),
         CommandRefusal::BadValue { name, port } => {
             push_two(b"refused BadValue ", name.bytes(), out)?;
             push_two(b" ", type_text(port), out)

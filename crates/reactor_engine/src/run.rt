@@ -1,0 +1,146 @@
+//! The top call.
+ghost use Rattle.std.specs.Prelude.{◌≡◌, ◌≢◌, ◌⊎◌, ◌<◌, ◌≤◌, length, Err, IfSome, IsNone};
+ghost use Rattle.elm_base.specs.declared.fault.ProjectFault.{ProjectFault};
+ghost use Rattle.reactor_outside.specs.Count.{Rose};
+ghost use Rattle.reactor_meaning.specs.Texts.{fault_line, shelf_line};
+ghost use Rattle.reactor_engine.specs.Project.{Compiles};
+ghost use Rattle.reactor_engine.specs.Words.{project_of};
+ghost use Rattle.reactor_engine.specs.Serving.{max_script};
+ghost use Rattle.reactor_engine.specs.Run.{Quiet, Ends, Run, ProjectRun, AsksFor, HasFault, IsRefusal, Tells, Reports, usage_text};
+
+use crate::project::{LoadStop, load};
+use crate::serve::serve;
+use crate::status::Status;
+use crate::texts::{push_fault, push_shelf_failure};
+use crate::words::Words;
+use elm_base::{Name, NoMemory, ProjectFault, Steps};
+use reactor_outside::{Failed, Shelf, Sink, Source, put};
+use std::alloc::Global;
+use std::sync::ledger::Ledger;
+
+const USAGE: &[u8] = b"usage: reactor run PROJECT\n";
+
+/// Runs the project that the words ask for: shows its first frame, and then answers the script line by line. The
+/// answers to all whole lines that were read are written before the next read.
+pub fn reactor_run<H: Shelf, S: Source, K: Sink, L: Ledger>(
+    alloc: Global,
+    words: &Words,
+    shelf: &mut H,
+    script: &mut S,
+    screen: &mut K,
+    _steps: &mut Steps<L>,
+) -> Status
+    // While memory suffices and nothing outside fails, what is written is the transcript of a fresh run of the
+    // project, or the fault of the project, or the usage text: for every script of at most 2^30 bytes, and in whatever
+    // pieces it is read.
+    ensures headline { Quiet (H.faults shelf.old) (H.faults shelf.new) → Quiet (S.faults script.old) (S.faults script.new)
+        → Quiet (K.faults screen.old) (K.faults screen.new) → result ≢ Status.NoMemory
+        → IfSome (H.files shelf.old) (λ files. IfSome (S.left script.old) (λ text. length text ≤ max_script
+        → Ends (project_of words.now) files text (K.taken screen.old) result (K.taken screen.new))) }
+
+    // The words are of no form exactly where this is the answer, or its text could not be written.
+    ensures usage { result ≡ Status.Usage → IsNone (project_of words.now) }
+    ensures usage_always { IsNone (project_of words.now) → (result ≡ Status.Usage) ⊎ (result ≡ Status.WriteFault) }
+
+    // The project has a fault exactly where this is the answer, save that a failure or want of memory may come first.
+    ensures project_refused { result ≡ Status.ProjectRefused → AsksFor (project_of words.now) (HasFault (H.files shelf.old)) }
+    ensures project_refused_always { IfSome (project_of words.now) (λ project. IfSome (H.files shelf.old) (λ files. (fault : ProjectFault)
+        → Compiles files project (Err fault) → IsRefusal result)) }
+
+    // A failure is answered only where the count of the object that failed shows it.
+    ensures read_fault { result ≡ Status.ReadFault → Rose (S.faults script.old) (S.faults script.new) }
+    ensures write_fault { result ≡ Status.WriteFault → Rose (K.faults screen.old) (K.faults screen.new) }
+    ensures shelf_fault { result ≡ Status.ShelfFault → Rose (H.faults shelf.old) (H.faults shelf.new) }
+
+    // A script is too long only where it has more than 2^30 bytes.
+    ensures script_too_long { result ≡ Status.ScriptTooLong → IfSome (S.left script.old) (λ text. max_script < length text) }
+
+    // No file changes.
+    ensures files { H.files shelf.new ≡ H.files shelf.old }
+{
+    run(alloc, words, shelf, script, screen)
+}
+
+/// The run, in what each of its ends says.
+fn run<H: Shelf, S: Source, K: Sink>(
+    alloc: Global,
+    words: &Words,
+    shelf: &mut H,
+    script: &mut S,
+    screen: &mut K,
+) -> Status
+    ensures ends { Run (project_of words.now) (H.files shelf.old) (H.faults shelf.old) (H.faults shelf.new)
+        (record { reads = S.faults script.old; writes = K.faults screen.old; left = S.left script.old; taken = K.taken screen.old })
+        (record { reads = S.faults script.new; writes = K.faults screen.new; left = S.left script.new; taken = K.taken screen.new })
+        result }
+    ensures files { H.files shelf.new ≡ H.files shelf.old }
+{
+    match words.project() {
+        None => show_usage(screen),
+        Some(project) => run_project(alloc, project, shelf, script, screen),
+    }
+}
+
+/// Writes how the program is called.
+fn show_usage<K: Sink>(screen: &mut K) -> Status
+    ensures { Tells Status.Usage usage_text (K.faults screen.old) (K.faults screen.new) (K.taken screen.old) (K.taken screen.new) result }
+{
+    match put(screen, USAGE) {
+        Ok(()) => Status::Usage,
+        Err(Failed) => Status::WriteFault,
+    }
+}
+
+/// Runs a project.
+fn run_project<H: Shelf, S: Source, K: Sink>(
+    alloc: Global,
+    project: &str,
+    shelf: &mut H,
+    script: &mut S,
+    screen: &mut K,
+) -> Status
+    ensures ends { ProjectRun project.now (H.files shelf.old) (H.faults shelf.old) (H.faults shelf.new)
+        (record { reads = S.faults script.old; writes = K.faults screen.old; left = S.left script.old; taken = K.taken screen.old })
+        (record { reads = S.faults script.new; writes = K.faults screen.new; left = S.left script.new; taken = K.taken screen.new })
+        result }
+    ensures files { H.files shelf.new ≡ H.files shelf.old }
+{
+    match load(alloc, shelf, project) {
+        Ok(port) => serve(alloc, port, script, screen),
+        Err(LoadStop::Fault(fault)) => refuse(alloc, &fault, screen),
+        Err(LoadStop::Shelf(file)) => report_shelf(alloc, &file, screen),
+        Err(LoadStop::NoMemory) => Status::NoMemory,
+    }
+}
+
+/// Writes which fault the project has.
+fn refuse<K: Sink>(alloc: Global, fault: &ProjectFault, screen: &mut K) -> Status
+    ensures { Reports Status.ProjectRefused (fault_line fault.now) (K.faults screen.old) (K.faults screen.new) (K.taken screen.old) (K.taken screen.new) result }
+{
+    let mut out = Vec::new(alloc);
+    match push_fault(fault, &mut out) {
+        Ok(()) => report(&out, Status::ProjectRefused, screen),
+        Err(NoMemory) => Status::NoMemory,
+    }
+}
+
+/// Writes which file could not be read.
+fn report_shelf<K: Sink>(alloc: Global, file: &Name, screen: &mut K) -> Status
+    ensures { Reports Status.ShelfFault (shelf_line file.now) (K.faults screen.old) (K.faults screen.new) (K.taken screen.old) (K.taken screen.new) result }
+{
+    let mut out = Vec::new(alloc);
+    match push_shelf_failure(file, &mut out) {
+        Ok(()) => report(&out, Status::ShelfFault, screen),
+        Err(NoMemory) => Status::NoMemory,
+    }
+}
+
+/// Writes a text that ends the run, and gives this status where it was written.
+fn report<K: Sink>(text: &[u8], status: Status, screen: &mut K) -> Status
+    ensures { Tells status text.now (K.faults screen.old) (K.faults screen.new) (K.taken screen.old) (K.taken screen.new) result }
+{
+    match put(screen, text) {
+        Ok(()) => status,
+        Err(Failed) => Status::WriteFault,
+    }
+}

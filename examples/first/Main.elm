@@ -1,0 +1,3 @@
+import Graphics.Element exposing (..)
+port p : Signal Int
+main = Signal.map show p
