@@ -1,24 +1,19 @@
 -- The reader of names meets the definition, and nothing else does.
-use Rattle.std.proofs.Common.{◌≡◌, ◌≢◌, ℕ, ◌+◌, ◌<◌, ◌≤◌, Bool, true, false, ◌||◌, cond, ◌⊎◌, List, [], ◌∷◌, ◌++◌, length, take, Option, Some, None, Ok, Err, refl, sym, ap, ◌∙◌, subst, inl, inr, arith, ltb, lt-ltb, le-ltb, ltb-true, ltb-false, length-take-le}
+use Rattle.std.proofs.Common.{◌≡◌, ℕ, ◌<◌, ◌≤◌, Bool, true, false, ◌++◌, length, take, Ok, Err, refl, sym, ap, ◌∙◌, subst, inl, inr, ltb, lt-ltb, le-ltb, ltb-true, ltb-false, length-take-le}
 use Rattle.std.specs.Prelude.{slice_index, if◌then◌else◌}
-use Rattle.elm_base.specs.declared.token.TokenKind.{TokenKind}
 use Rattle.elm_base.specs.declared.token.TokenKind.TheVariants as kind
 use Rattle.elm_base.specs.declared.fault.FaultKind.TheVariants as fault
-use Rattle.layout_lexer.specs.declared.byte_class.Class.{Class}
 use Rattle.layout_lexer.specs.declared.byte_class.Class.TheVariants.{Lower, Upper}
 use Rattle.layout_lexer.specs.declared.name.TheConstants.{MAX_NAME}
-use Rattle.layout_lexer.specs.declared.piece.Piece.{Piece}
-use Rattle.layout_lexer.specs.Chars.{Text, class_of, is_in, is_letter}
+use Rattle.layout_lexer.specs.Chars.{Text, is_letter}
 use Rattle.layout_lexer.specs.Marks.{is_listed, words}
 use Rattle.layout_lexer.specs.Spellings.{Begins, IsLongest, IsName, IsQualified}
-use Rattle.layout_lexer.specs.Cuts.{Part}
-use Rattle.layout_lexer.specs.Tokens.{Stands, word, lower, upper, Faulty, long_name, token_part}
-use Rattle.layout_lexer.specs.Pieces.{Read, name, name_end, name_kind, token, piece}
-use Rattle.layout_lexer.specs.Scan.{piece_of}
-use Rattle.layout_lexer.proofs.Classes.{its_class, letter_class}
+use Rattle.layout_lexer.specs.Tokens.{Stands, word, lower, upper, long_name, token_part}
+use Rattle.layout_lexer.specs.Pieces.{name, name_end, name_kind, token, piece}
+use Rattle.layout_lexer.proofs.Classes.{letter_class}
 use Rattle.layout_lexer.proofs.Longest.{front_taken, begins_take, longest_len}
 use Rattle.layout_lexer.proofs.Names.{ReadsName, reads_name, kind_class, qualified_letter}
-use Rattle.layout_lexer.proofs.Dispatch.{Meets, part_of, by_plain_class}
+use Rattle.layout_lexer.proofs.Dispatch.{Meets, by_plain_class}
 
 name_of : (u : Bool) (s : Text) → IsQualified (kind_class u) s → IsName s
 name_of true s q = inr q
@@ -43,6 +38,7 @@ module _ (text : Text) (r : ReadsName text) where
     where
       s : Text
       s = take (name_end text).1 text
+
       go : (u : Bool) → (name_end text).0 ≡ name_kind u → IsQualified (kind_class u) s → Stands joined text (token_part (name_end text).0 s)
       go true k q = upper s longest_name (subst (λ (n : ℕ). n ≤ MAX_NAME) (sym (length-take-le (name_end text).1 text r.within)) h) e q (ap (λ x. token_part x s) k)
       go false k q = lower s longest_name (subst (λ (n : ℕ). n ≤ MAX_NAME) (sym (length-take-le (name_end text).1 text r.within)) h) e q (ap (λ x. token_part x s) k)

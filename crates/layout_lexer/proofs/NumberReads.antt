@@ -1,5 +1,5 @@
 -- The reader of numbers meets the definition, and nothing else does.
-use Rattle.std.proofs.Common.{◌≡◌, ◌≢◌, ℕ, zero, suc, ◌+◌, ◌-◌, ◌*◌, ◌<◌, ◌≤◌, Bool, true, false, List, [], ◌∷◌, ◌++◌, length, take, drop, Ok, Err, refl, sym, ap, ◌∙◌, subst, arith, ltb, ltb-true, ltb-false, lt-ltb, le-ltb, lit≤, zero-add, take-append-drop}
+use Rattle.std.proofs.Common.{◌≡◌, ℕ, ◌+◌, ◌-◌, ◌*◌, ◌<◌, ◌≤◌, Bool, true, false, [], ◌∷◌, ◌++◌, length, take, drop, Ok, Err, refl, sym, ap, ◌∙◌, subst, arith, ltb, ltb-true, ltb-false, lit≤, zero-add, take-append-drop}
 use Rattle.std.specs.List.{prefix_len, list_all}
 use Rattle.std.proofs.lemmas.Bool.{and_parts}
 use Rattle.std.specs.Prelude.{slice_index, if◌then◌else◌}
@@ -7,13 +7,13 @@ use Rattle.elm_base.specs.declared.token.TokenKind.TheVariants as kind
 use Rattle.elm_base.specs.declared.fault.FaultKind.TheVariants as fault
 use Rattle.layout_lexer.specs.declared.byte_class.Class.TheVariants.{Digit}
 use Rattle.layout_lexer.specs.declared.literal.TheConstants.{MAX_INT}
-use Rattle.layout_lexer.specs.Chars.{Text, class_of, is_in}
+use Rattle.layout_lexer.specs.Chars.{Text, is_in}
 use Rattle.layout_lexer.specs.Marks.{goes_on}
-use Rattle.layout_lexer.specs.Spellings.{Begins, IsLongest, IsRun, value_from, value_of}
-use Rattle.layout_lexer.specs.Tokens.{Stands, int, Faulty, other_number, wide_number}
+use Rattle.layout_lexer.specs.Spellings.{IsLongest, IsRun, value_from, value_of}
+use Rattle.layout_lexer.specs.Tokens.{int, other_number, wide_number}
 use Rattle.layout_lexer.specs.Pieces.{Read, number, fits_from, token, piece}
 use Rattle.layout_lexer.proofs.Classes.{its_class}
-use Rattle.layout_lexer.proofs.Longest.{front_taken, front_dropped, begins_take, longest_run, longest_run_len}
+use Rattle.layout_lexer.proofs.Longest.{front_taken, front_dropped, longest_run, longest_run_len}
 use Rattle.layout_lexer.proofs.Dispatch.{Meets, by_plain_class}
 
 value_grows : (v : ℕ) (ds : Text) → v ≤ value_from v ds
@@ -46,6 +46,7 @@ fits_small ds h = go (fits_from 0 ds) refl
   where
     apart : (m a : ℕ) → m < a → a ≤ m → ⊥
     apart m a x y = omega arith
+
     go : (t : Bool) → fits_from 0 ds ≡ t → t ≡ true
     go true e = refl
     go false e = absurd (apart MAX_INT (value_of ds) (fits_false 0 ds e) h)
@@ -55,6 +56,7 @@ fits_large ds h = go (fits_from 0 ds) refl
   where
     apart : (m a : ℕ) → m < a → a ≤ m → ⊥
     apart m a x y = omega arith
+
     go : (t : Bool) → fits_from 0 ds ≡ t → t ≡ false
     go false e = refl
     go true e = absurd (apart MAX_INT (value_of ds) h (fits_true 0 ds (lit≤ tt) e))
@@ -72,10 +74,13 @@ number_meets joined text h = subst (Meets joined text) (sym (number_is text)) (g
   where
     n : ℕ
     n = prefix_len (is_in Digit) text
+
     s : Text
     s = take n text
+
     rest : Text
     rest = drop n text
+
     go : (t : Bool) → goes_on rest ≡ t → (u : Bool) → fits_from 0 s ≡ u → Meets joined text (if t then Err fault.Excluded else (if u then Ok (token kind.Int n) else Err fault.IntTooWide))
     go true e u f = other_number s rest (longest_run Digit text h) (sym (take-append-drop n text)) e refl
     go false e true f = int s rest (longest_run Digit text h) (sym (take-append-drop n text)) e (fits_true 0 s (lit≤ tt) f) refl

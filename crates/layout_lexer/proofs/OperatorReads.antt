@@ -1,5 +1,5 @@
 -- The reader of labels and operators meets the definition, and nothing else does.
-use Rattle.std.proofs.Common.{◌≡◌, ◌≢◌, ℕ, zero, suc, ◌+◌, ◌-◌, ◌<◌, ◌≤◌, Bool, true, false, cond, ◌&&◌, ◌⊎◌, List, [], ◌∷◌, ◌++◌, length, take, drop, Ok, Err, refl, sym, ap, ◌∙◌, subst, inl, inr, arith, ltb, eqb, ltb-true, ltb-false, lt-ltb, le-ltb, zero-add, length-append, length-take-le, take-append-drop}
+use Rattle.std.proofs.Common.{◌≡◌, ℕ, suc, ◌+◌, ◌<◌, ◌≤◌, Bool, true, false, cond, ◌&&◌, [], ◌∷◌, ◌++◌, length, take, drop, Ok, Err, refl, sym, ap, ◌∙◌, subst, inl, inr, arith, ltb, eqb, ltb-true, ltb-false, lt-ltb, le-ltb, zero-add, length-take-le}
 use Rattle.std.specs.List.{prefix_len, list_all}
 use Rattle.std.specs.Prelude.{slice_index, if◌then◌else◌}
 use Rattle.std.proofs.lemmas.Bool.{and_parts, and_from, eqb-true, true≢false}
@@ -12,8 +12,8 @@ use Rattle.layout_lexer.specs.declared.byte_class.Run.TheVariants as over
 use Rattle.layout_lexer.specs.declared.name.TheConstants.{MAX_NAME}
 use Rattle.layout_lexer.specs.Chars.{Text, class_of, is_in, is_name_byte, past}
 use Rattle.layout_lexer.specs.Marks.{is_listed, symbol_runs, opens}
-use Rattle.layout_lexer.specs.Spellings.{Begins, IsLongest, IsRun, IsField, IsSimple, IsOperator}
-use Rattle.layout_lexer.specs.Tokens.{Stands, field, operator as operator_rule, Faulty, long_field, long_operator}
+use Rattle.layout_lexer.specs.Spellings.{Begins, IsLongest, IsRun, IsField, IsOperator}
+use Rattle.layout_lexer.specs.Tokens.{field, operator as operator_rule, long_field, long_operator}
 use Rattle.layout_lexer.specs.Pieces.{Read, operator, label, run, token, piece}
 use Rattle.layout_lexer.proofs.Classes.{its_class, lower_is_letter}
 use Rattle.layout_lexer.proofs.Names.{letter_is_name}
@@ -62,6 +62,7 @@ lower_is_no_operator c e = go (is_in Operator c) refl
   where
     apart : class_of c ≡ Lower → class_of c ≡ Operator → ⊥
     apart p q = cc
+
     go : (t : Bool) → is_in Operator c ≡ t → t ≡ false
     go false f = refl
     go true f = absurd (apart (its_class Lower c e) (its_class Operator c f))
@@ -126,8 +127,10 @@ module _ (c : ℕ) (cs : Text) (low : is_in Lower c ≡ true) where
     where
       n : ℕ
       n = label_len c cs
+
       len : length (take n (46 ∷ c ∷ cs)) ≡ n
       len = length-take-le n (46 ∷ c ∷ cs) label_within
+
       go : (t : Bool) → ltb (MAX_NAME + 1) n ≡ t → Meets joined (46 ∷ c ∷ cs) (if t then Err fault.TooLarge else Ok (token (if joined then kind.Access else kind.FieldFunction) n))
       go true e = long_field (take n (46 ∷ c ∷ cs)) longest_label label_field (subst (λ (k : ℕ). MAX_NAME + 1 < k) (sym len) (ltb-true (MAX_NAME + 1) n e)) refl
       go false e = field (take n (46 ∷ c ∷ cs)) longest_label label_field (subst (λ (k : ℕ). k ≤ MAX_NAME + 1) (sym len) (ltb-false (MAX_NAME + 1) n e)) refl
@@ -158,12 +161,16 @@ run_meets joined text other plain h = subst (Meets joined text) (sym (run_is tex
   where
     n : ℕ
     n = prefix_len (is_in Operator) text
+
     len : length (take n text) ≡ n
     len = length-prefix_len (is_in Operator) text
+
     l : IsLongest IsOperator text (take n text)
     l = longest_operator text other h
+
     r : IsRun Operator (take n text)
     r = (longest_run Operator text h).spells
+
     go : (t : Bool) → ltb MAX_NAME n ≡ t → Meets joined text (if t then Err fault.TooLarge else Ok (token (if is_listed symbol_runs (take n text) then kind.Symbol else kind.Operator) n))
     go true e = long_operator (take n text) plain l r (subst (λ (k : ℕ). MAX_NAME < k) (sym len) (ltb-true MAX_NAME n e)) refl
     go false e = operator_rule (take n text) plain l r (subst (λ (k : ℕ). k ≤ MAX_NAME) (sym len) (ltb-false MAX_NAME n e)) refl
@@ -204,8 +211,8 @@ module _ (joined : Bool) (text s : Text) (l : IsLongest IsOperator text s) where
       let n = label_len sh.first sh.more in
       let within = label_within sh.first sh.more sh.lower in
       let same : length s ≡ n =
-          ap length (longest_len IsOperator (46 ∷ sh.first ∷ sh.more) s n l' within (inr (label_field sh.first sh.more sh.lower)) (label_most sh.first sh.more sh.lower))
-          ∙ length-take-le n (46 ∷ sh.first ∷ sh.more) within
+      ap length (longest_len IsOperator (46 ∷ sh.first ∷ sh.more) s n l' within (inr (label_field sh.first sh.more sh.lower)) (label_most sh.first sh.more sh.lower))
+      ∙ length-take-le n (46 ∷ sh.first ∷ sh.more) within
       in
       read_as_operator joined text (ap class_of first ∙ point_operator) (point_plain text first)
       ∙ ap (λ (t : Bool). cond t (label joined text) (run text)) (shape_labels text sh)
@@ -231,6 +238,7 @@ module _ (joined : Bool) (text s : Text) (l : IsLongest IsOperator text s) where
           let run = run_within (is_in Operator) (46 ∷ sh.first ∷ sh.more) s l'.front r.1 in
           let one = no_long_run sh.first sh.more sh.lower in
           omega (arith, length-take-le n (46 ∷ sh.first ∷ sh.more) within, label_long sh.first sh.more)
+
       go : (t : Bool) → labels text ≡ t → t ≡ false
       go false e = refl
       go true e = absurd (short (labels_shape text e))

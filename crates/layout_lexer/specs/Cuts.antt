@@ -1,17 +1,13 @@
 -- A text cut into tokens, white space and comments; the first fault of a text.
-use Rattle.std.specs.Prelude.{◌≡◌, ℕ, ◌<◌, ⊤, Bool, true, false, ◌⊎◌, ◌==◌, ◌||◌, List, [], ◌∷◌, ◌++◌, take, length, map, Option, Some, None, Result, Ok, Err}
+use Rattle.std.specs.Prelude.{◌≡◌, ℕ, Bool, true, false, ◌⊎◌, ◌||◌, List, [], ◌∷◌, ◌++◌, take, Option, Some, None}
 use Rattle.std.specs.List.{flat_map}
 use Rattle.std.specs.Str.{IsUtf8, IsValidUpTo}
-use Rattle.elm_base.specs.declared.memory.Halt.{Halt}
-use Rattle.elm_base.specs.declared.memory.Halt.TheVariants as halt
 use Rattle.elm_base.specs.declared.token.At.{At}
-use Rattle.elm_base.specs.declared.token.Token.{Token}
 use Rattle.elm_base.specs.declared.token.TokenKind.{TokenKind}
 use Rattle.elm_base.specs.declared.token.TokenKind.TheVariants as kind
 use Rattle.elm_base.specs.declared.fault.FaultKind.{FaultKind}
 use Rattle.elm_base.specs.declared.fault.FaultKind.TheVariants as fault
 use Rattle.layout_lexer.specs.declared.place.TextFault.{TextFault}
-use Rattle.layout_lexer.specs.declared.piece.Piece.{Piece}
 use Rattle.layout_lexer.specs.Chars.{Text, is_among}
 use Rattle.layout_lexer.specs.Places.{place_after}
 use Rattle.layout_lexer.specs.Lexemes.{Lexeme, fault_after}

@@ -1,5 +1,5 @@
 -- The plain function that reads the piece at the front of a text.
-use Rattle.std.specs.Prelude.{ℕ, ◌+◌, ◌-◌, ◌*◌, Bool, true, false, not, ◌&&◌, ◌||◌, if◌then◌else◌, ◌==◌, nat_lt, List, [], ◌∷◌, length, take, drop, map, slice_index, Option, Some, None, Result, Ok, Err}
+use Rattle.std.specs.Prelude.{ℕ, ◌+◌, ◌-◌, ◌*◌, Bool, true, false, ◌&&◌, ◌||◌, if◌then◌else◌, ◌==◌, nat_lt, [], ◌∷◌, length, take, drop, slice_index, Option, Some, None, Result, Ok, Err}
 use Rattle.elm_base.specs.declared.token.TokenKind.{TokenKind}
 use Rattle.elm_base.specs.declared.token.TokenKind.TheVariants as kind
 use Rattle.elm_base.specs.declared.fault.FaultKind.{FaultKind}

@@ -1,19 +1,10 @@
 -- The spellings of each kind of token, and which of them stands at a place.
-use Rattle.std.specs.Prelude.{◌≡◌, ◌≢◌, ℕ, zero, suc, ◌+◌, ◌-◌, ◌*◌, ◌<◌, ◌≤◌, ⊤, Bool, true, false, not, ◌==◌, ◌⊎◌, if◌then◌else◌, List, [], ◌∷◌, ◌++◌, length, drop, Option, Some, None}
+use Rattle.std.specs.Prelude.{◌≡◌, ◌≢◌, ℕ, ◌+◌, ◌-◌, ◌*◌, ◌<◌, ◌≤◌, ⊤, true, ◌⊎◌, List, [], ◌∷◌, ◌++◌, length}
 use Rattle.std.specs.List.{list_all}
-use Rattle.elm_base.specs.declared.token.TokenKind.{TokenKind}
-use Rattle.elm_base.specs.declared.token.TokenKind.TheVariants as kind
-use Rattle.elm_base.specs.declared.fault.FaultKind.{FaultKind}
-use Rattle.elm_base.specs.declared.fault.FaultKind.TheVariants as fault
 use Rattle.layout_lexer.specs.declared.byte_class.Class.{Class}
 use Rattle.layout_lexer.specs.declared.byte_class.Class.TheVariants as class
-use Rattle.layout_lexer.specs.declared.name.TheConstants.{MAX_NAME}
-use Rattle.layout_lexer.specs.declared.literal.TheConstants.{MAX_INT}
-use Rattle.layout_lexer.specs.Chars.{Text, class_of, is_in, is_name_byte, is_continuation}
-use Rattle.layout_lexer.specs.Marks.{opens, is_listed, words, symbol_runs, goes_on, is_escape}
-use Rattle.layout_lexer.specs.Lexemes.{Lexeme}
-use Rattle.layout_lexer.specs.Cuts.{Part, TokensBy, FirstFaultBy}
-use Rattle.layout_lexer.specs.declared.place.TextFault.{TextFault}
+use Rattle.layout_lexer.specs.Chars.{Text, is_in, is_name_byte, is_continuation}
+use Rattle.layout_lexer.specs.Marks.{is_escape}
 
 -- the text begins with s
 abbrev pub Begins : Text → Text → Type 0
