@@ -9,9 +9,8 @@ use Rattle.elm_base.specs.declared.token.TokenKind.TheVariants as kind
 use Rattle.elm_base.specs.declared.fault.FaultKind.TheVariants as fault
 use Rattle.layout_lexer.specs.declared.byte_class.Class.TheVariants.{Operator, Lower}
 use Rattle.layout_lexer.specs.declared.byte_class.Run.TheVariants as over
-use Rattle.layout_lexer.specs.declared.name.TheConstants.{MAX_NAME}
 use Rattle.layout_lexer.specs.Chars.{Text, class_of, is_in, is_name_byte, past}
-use Rattle.layout_lexer.specs.Marks.{is_listed, symbol_runs, opens}
+use Rattle.layout_lexer.specs.Marks.{max_name, is_listed, symbol_runs, opens}
 use Rattle.layout_lexer.specs.Spellings.{Begins, IsLongest, IsRun, IsField, IsOperator}
 use Rattle.layout_lexer.specs.Tokens.{field, operator as operator_rule, long_field, long_operator}
 use Rattle.layout_lexer.specs.Pieces.{Read, operator, label, run, token, piece}
@@ -123,7 +122,7 @@ module _ (c : ℕ) (cs : Text) (low : is_in Lower c ≡ true) where
   }
 
   label_meets : (joined : Bool) → Meets joined (46 ∷ c ∷ cs) (label joined (46 ∷ c ∷ cs))
-  label_meets joined = subst (λ (n : ℕ). Meets joined (46 ∷ c ∷ cs) (if ltb (MAX_NAME + 1) n then Err fault.TooLarge else Ok (token (if joined then kind.Access else kind.FieldFunction) n))) (sym past_label) (go (ltb (MAX_NAME + 1) n) refl)
+  label_meets joined = subst (λ (n : ℕ). Meets joined (46 ∷ c ∷ cs) (if ltb (max_name + 1) n then Err fault.TooLarge else Ok (token (if joined then kind.Access else kind.FieldFunction) n))) (sym past_label) (go (ltb (max_name + 1) n) refl)
     where
       n : ℕ
       n = label_len c cs
@@ -131,9 +130,9 @@ module _ (c : ℕ) (cs : Text) (low : is_in Lower c ≡ true) where
       len : length (take n (46 ∷ c ∷ cs)) ≡ n
       len = length-take-le n (46 ∷ c ∷ cs) label_within
 
-      go : (t : Bool) → ltb (MAX_NAME + 1) n ≡ t → Meets joined (46 ∷ c ∷ cs) (if t then Err fault.TooLarge else Ok (token (if joined then kind.Access else kind.FieldFunction) n))
-      go true e = long_field (take n (46 ∷ c ∷ cs)) longest_label label_field (subst (λ (k : ℕ). MAX_NAME + 1 < k) (sym len) (ltb-true (MAX_NAME + 1) n e)) refl
-      go false e = field (take n (46 ∷ c ∷ cs)) longest_label label_field (subst (λ (k : ℕ). k ≤ MAX_NAME + 1) (sym len) (ltb-false (MAX_NAME + 1) n e)) refl
+      go : (t : Bool) → ltb (max_name + 1) n ≡ t → Meets joined (46 ∷ c ∷ cs) (if t then Err fault.TooLarge else Ok (token (if joined then kind.Access else kind.FieldFunction) n))
+      go true e = long_field (take n (46 ∷ c ∷ cs)) longest_label label_field (subst (λ (k : ℕ). max_name + 1 < k) (sym len) (ltb-true (max_name + 1) n e)) refl
+      go false e = field (take n (46 ∷ c ∷ cs)) longest_label label_field (subst (λ (k : ℕ). k ≤ max_name + 1) (sym len) (ltb-false (max_name + 1) n e)) refl
 
 -- ---- a run
 
@@ -151,13 +150,13 @@ module _ (text : Text) (other : labels text ≡ false) where
       go t b (inr g) f = absurd (no_field t b g)
 
 abbrev run_at : Text → ℕ → Read
-run_at text end = if ltb MAX_NAME end then Err fault.TooLarge else Ok (token (if is_listed symbol_runs (take end text) then kind.Symbol else kind.Operator) end)
+run_at text end = if ltb max_name end then Err fault.TooLarge else Ok (token (if is_listed symbol_runs (take end text) then kind.Symbol else kind.Operator) end)
 
 run_is : (text : Text) → run text ≡ run_at text (prefix_len (is_in Operator) text)
 run_is text = ap (run_at text) (zero-add (prefix_len (is_in Operator) text))
 
 run_meets : (joined : Bool) (text : Text) → labels text ≡ false → opens 45 45 text ≡ false → 0 < prefix_len (is_in Operator) text → Meets joined text (run text)
-run_meets joined text other plain h = subst (Meets joined text) (sym (run_is text)) (go (ltb MAX_NAME n) refl)
+run_meets joined text other plain h = subst (Meets joined text) (sym (run_is text)) (go (ltb max_name n) refl)
   where
     n : ℕ
     n = prefix_len (is_in Operator) text
@@ -171,9 +170,9 @@ run_meets joined text other plain h = subst (Meets joined text) (sym (run_is tex
     r : IsRun Operator (take n text)
     r = (longest_run Operator text h).spells
 
-    go : (t : Bool) → ltb MAX_NAME n ≡ t → Meets joined text (if t then Err fault.TooLarge else Ok (token (if is_listed symbol_runs (take n text) then kind.Symbol else kind.Operator) n))
-    go true e = long_operator (take n text) plain l r (subst (λ (k : ℕ). MAX_NAME < k) (sym len) (ltb-true MAX_NAME n e)) refl
-    go false e = operator_rule (take n text) plain l r (subst (λ (k : ℕ). k ≤ MAX_NAME) (sym len) (ltb-false MAX_NAME n e)) refl
+    go : (t : Bool) → ltb max_name n ≡ t → Meets joined text (if t then Err fault.TooLarge else Ok (token (if is_listed symbol_runs (take n text) then kind.Symbol else kind.Operator) n))
+    go true e = long_operator (take n text) plain l r (subst (λ (k : ℕ). max_name < k) (sym len) (ltb-true max_name n e)) refl
+    go false e = operator_rule (take n text) plain l r (subst (λ (k : ℕ). k ≤ max_name) (sym len) (ltb-false max_name n e)) refl
 
 pub operator_meets : (joined : Bool) (text : Text) → opens 45 45 text ≡ false → 0 < prefix_len (is_in Operator) text → Meets joined text (operator joined text)
 unfolding operator labels
@@ -202,7 +201,7 @@ point_plain : (text : Text) → slice_index text 0 ≡ 46 → opens 45 45 text �
 point_plain text e = rw e refl
 
 module _ (joined : Bool) (text s : Text) (l : IsLongest IsOperator text s) where
-  field_value : IsField s → piece joined text ≡ (if ltb (MAX_NAME + 1) (length s) then Err fault.TooLarge else Ok (token (if joined then kind.Access else kind.FieldFunction) (length s)))
+  field_value : IsField s → piece joined text ≡ (if ltb (max_name + 1) (length s) then Err fault.TooLarge else Ok (token (if joined then kind.Access else kind.FieldFunction) (length s)))
   unfolding operator labels
   field_value f =
       let sh = field_labels text s l.front f in
@@ -217,13 +216,13 @@ module _ (joined : Bool) (text s : Text) (l : IsLongest IsOperator text s) where
       read_as_operator joined text (ap class_of first ∙ point_operator) (point_plain text first)
       ∙ ap (λ (t : Bool). cond t (label joined text) (run text)) (shape_labels text sh)
       ∙ ap (label joined) sh.split
-      ∙ ap (λ (k : ℕ). if ltb (MAX_NAME + 1) k then Err fault.TooLarge else Ok (token (if joined then kind.Access else kind.FieldFunction) k)) (past_label sh.first sh.more sh.lower ∙ sym same)
+      ∙ ap (λ (k : ℕ). if ltb (max_name + 1) k then Err fault.TooLarge else Ok (token (if joined then kind.Access else kind.FieldFunction) k)) (past_label sh.first sh.more sh.lower ∙ sym same)
 
-  pub field_read : IsField s → length s ≤ MAX_NAME + 1 → piece joined text ≡ Ok (token (if joined then kind.Access else kind.FieldFunction) (length s))
-  field_read f h = field_value f ∙ rw (le-ltb (MAX_NAME + 1) (length s) h) refl
+  pub field_read : IsField s → length s ≤ max_name + 1 → piece joined text ≡ Ok (token (if joined then kind.Access else kind.FieldFunction) (length s))
+  field_read f h = field_value f ∙ rw (le-ltb (max_name + 1) (length s) h) refl
 
-  pub long_field_read : IsField s → MAX_NAME + 1 < length s → piece joined text ≡ Err fault.TooLarge
-  long_field_read f h = field_value f ∙ rw (lt-ltb (MAX_NAME + 1) (length s) h) refl
+  pub long_field_read : IsField s → max_name + 1 < length s → piece joined text ≡ Err fault.TooLarge
+  long_field_read f h = field_value f ∙ rw (lt-ltb (max_name + 1) (length s) h) refl
 
   -- a run that is the longest has no label in its place
   no_label : IsRun Operator s → labels text ≡ false
@@ -243,7 +242,7 @@ module _ (joined : Bool) (text s : Text) (l : IsLongest IsOperator text s) where
       go false e = refl
       go true e = absurd (short (labels_shape text e))
 
-  run_value : IsRun Operator s → opens 45 45 text ≡ false → piece joined text ≡ (if ltb MAX_NAME (length s) then Err fault.TooLarge else Ok (token (if is_listed symbol_runs s then kind.Symbol else kind.Operator) (length s)))
+  run_value : IsRun Operator s → opens 45 45 text ≡ false → piece joined text ≡ (if ltb max_name (length s) then Err fault.TooLarge else Ok (token (if is_listed symbol_runs s then kind.Symbol else kind.Operator) (length s)))
   unfolding operator labels
   run_value r plain =
       let first = ap (λ t. is_in Operator (slice_index t 0)) l.front.1 ∙ run_first_class s l.front.0 r in
@@ -253,10 +252,10 @@ module _ (joined : Bool) (text s : Text) (l : IsLongest IsOperator text s) where
       ∙ ap (λ (t : Bool). cond t (label joined text) (run text)) (no_label r)
       ∙ run_is text
       ∙ ap (run_at text) (sym same)
-      ∙ ap (λ (t : Text). if ltb MAX_NAME (length s) then Err fault.TooLarge else Ok (token (if is_listed symbol_runs t then kind.Symbol else kind.Operator) (length s))) (front_taken s text l.front)
+      ∙ ap (λ (t : Text). if ltb max_name (length s) then Err fault.TooLarge else Ok (token (if is_listed symbol_runs t then kind.Symbol else kind.Operator) (length s))) (front_taken s text l.front)
 
-  pub run_read : IsRun Operator s → opens 45 45 text ≡ false → length s ≤ MAX_NAME → piece joined text ≡ Ok (token (if is_listed symbol_runs s then kind.Symbol else kind.Operator) (length s))
-  run_read r plain h = run_value r plain ∙ rw (le-ltb MAX_NAME (length s) h) refl
+  pub run_read : IsRun Operator s → opens 45 45 text ≡ false → length s ≤ max_name → piece joined text ≡ Ok (token (if is_listed symbol_runs s then kind.Symbol else kind.Operator) (length s))
+  run_read r plain h = run_value r plain ∙ rw (le-ltb max_name (length s) h) refl
 
-  pub long_run_read : IsRun Operator s → opens 45 45 text ≡ false → MAX_NAME < length s → piece joined text ≡ Err fault.TooLarge
-  long_run_read r plain h = run_value r plain ∙ rw (lt-ltb MAX_NAME (length s) h) refl
+  pub long_run_read : IsRun Operator s → opens 45 45 text ≡ false → max_name < length s → piece joined text ≡ Err fault.TooLarge
+  long_run_read r plain h = run_value r plain ∙ rw (lt-ltb max_name (length s) h) refl

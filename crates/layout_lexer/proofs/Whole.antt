@@ -6,8 +6,7 @@ use Rattle.std.proofs.lemmas.Bool.{eqb-true}
 use Rattle.elm_base.specs.declared.fault.FaultKind.{FaultKind}
 use Rattle.layout_lexer.specs.declared.byte_class.Class.{Class}
 use Rattle.layout_lexer.specs.declared.byte_class.Class.TheVariants.{White, Lower, Upper, Digit, Quote, Apostrophe, Symbol, Operator, Other}
-use Rattle.layout_lexer.specs.declared.byte_class.TheConstants.{WHITE, SYMBOLS, OPERATORS}
-use Rattle.layout_lexer.specs.Chars.{Text, class_of, is_in, is_among}
+use Rattle.layout_lexer.specs.Chars.{whites, symbols, operators, Text, class_of, is_in, is_among}
 use Rattle.layout_lexer.specs.Marks.{opens}
 use Rattle.layout_lexer.specs.Spellings.{IsQualified, IsName, dotted}
 use Rattle.layout_lexer.specs.Cuts.{Part}
@@ -29,7 +28,7 @@ use Rattle.layout_lexer.proofs.CommentReads.{comment_meets, comment_read, open_c
 
 quote_byte : (b : ℕ) → class_of b ≡ Quote → b ≡ 34
 unfolding class_of
-quote_byte b e = go (is_ascii_lowercase b) (is_ascii_uppercase b) (is_ascii_digit b) (eqb b 34) refl (eqb b 39) (is_among WHITE.now b) (is_among SYMBOLS.now b) (is_among OPERATORS.now b) e
+quote_byte b e = go (is_ascii_lowercase b) (is_ascii_uppercase b) (is_ascii_digit b) (eqb b 34) refl (eqb b 39) (is_among whites b) (is_among symbols b) (is_among operators b) e
   where
     go : (l u d q : Bool) → eqb b 34 ≡ q → (a w s o : Bool)
         → cond l Lower (cond u Upper (cond d Digit (cond q Quote (cond a Apostrophe (cond w White (cond s Symbol (cond o Operator Other))))))) ≡ Quote → b ≡ 34
@@ -45,7 +44,7 @@ quote_byte b e = go (is_ascii_lowercase b) (is_ascii_uppercase b) (is_ascii_digi
 
 apostrophe_byte : (b : ℕ) → class_of b ≡ Apostrophe → b ≡ 39
 unfolding class_of
-apostrophe_byte b e = go (is_ascii_lowercase b) (is_ascii_uppercase b) (is_ascii_digit b) (eqb b 34) (eqb b 39) refl (is_among WHITE.now b) (is_among SYMBOLS.now b) (is_among OPERATORS.now b) e
+apostrophe_byte b e = go (is_ascii_lowercase b) (is_ascii_uppercase b) (is_ascii_digit b) (eqb b 34) (eqb b 39) refl (is_among whites b) (is_among symbols b) (is_among operators b) e
   where
     go : (l u d q a : Bool) → eqb b 39 ≡ a → (w s o : Bool)
         → cond l Lower (cond u Upper (cond d Digit (cond q Quote (cond a Apostrophe (cond w White (cond s Symbol (cond o Operator Other))))))) ≡ Apostrophe → b ≡ 39
