@@ -1,4 +1,4 @@
-use crate::{TextFault, tokens};
+use crate::{TextFault, one_reading, tokens};
 use elm_base::{FaultKind, Halt, Token, TokenKind};
 use std::alloc::Global;
 use std::process::Abort;
@@ -160,6 +160,7 @@ fn faults_of_each_kind(rt: HostRuntime) -> Result<(), Fail> {
         (b"?\n\xFF\t", 2, NotUtf8),
         (b"?\n\t", 2, Tab),
     ];
+    one_reading();
     for row in &rows {
         refuses(&rt, rt.alloc(), row.0, row.1, row.2);
     }
