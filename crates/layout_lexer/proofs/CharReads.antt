@@ -184,7 +184,7 @@ char_meets joined t = go (character (39 ∷ t)) refl
         (char f.spelling (longest_char t f.spelling f.spells f.front) (ap (λ x. record { kind = Some kind.Char; text = x }) (front_taken f.spelling (39 ∷ t) f.front)))
     go (Err k) e = bad_char t refl (λ s b x. ok_or_err (token kind.Char (length s)) k (character (39 ∷ t)) (char_value t s b x) e) (only_bad (39 ∷ t) k e)
 
-apostrophe_class : class_of 39 ≡ Apostrophe
+pub apostrophe_class : class_of 39 ≡ Apostrophe
 unfolding class_of
 apostrophe_class = refl
 

@@ -51,7 +51,7 @@ module _ (text : Text) (r : ReadsName text) where
       go true e = long_name (take (name_end text).1 text) longest_name (subst (λ (n : ℕ). max_name < n) (sym (length-take-le (name_end text).1 text r.within)) (ltb-true max_name (name_end text).1 e)) refl
       go false e = name_stands joined (is_listed words (take (name_end text).1 text)) refl (ltb-false max_name (name_end text).1 e)
 
-name_letter : (text s : Text) → Begins s text → IsName s → is_letter (slice_index text 0) ≡ true
+pub name_letter : (text s : Text) → Begins s text → IsName s → is_letter (slice_index text 0) ≡ true
 name_letter text s b n = ap (λ t. is_letter (slice_index t 0)) b.1 ∙ go n
   where
     go : IsName s → is_letter (slice_index (s ++ b.0) 0) ≡ true

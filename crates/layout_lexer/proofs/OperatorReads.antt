@@ -11,7 +11,7 @@ use Rattle.layout_lexer.specs.declared.byte_class.Class.TheVariants.{Operator, L
 use Rattle.layout_lexer.specs.declared.byte_class.Run.TheVariants as over
 use Rattle.layout_lexer.specs.Chars.{Text, class_of, is_in, is_name_byte, past}
 use Rattle.layout_lexer.specs.Marks.{max_name, is_listed, symbol_runs, opens}
-use Rattle.layout_lexer.specs.Spellings.{Begins, IsLongest, IsRun, IsField, IsOperator}
+use Rattle.layout_lexer.specs.Spellings.{Begins, IsLongest, IsRun, IsField, IsFieldOrRun}
 use Rattle.layout_lexer.specs.Tokens.{field, operator as operator_rule, long_field, long_operator}
 use Rattle.layout_lexer.specs.Pieces.{Read, operator, label, run, token, piece}
 use Rattle.layout_lexer.proofs.Classes.{its_class, lower_is_letter}
@@ -106,7 +106,7 @@ module _ (c : ℕ) (cs : Text) (low : is_in Lower c ≡ true) where
       go true = omega arith
       go false = omega arith
 
-  label_most : (t : Text) → Begins t (46 ∷ c ∷ cs) → IsOperator t → length t ≤ label_len c cs
+  label_most : (t : Text) → Begins t (46 ∷ c ∷ cs) → IsFieldOrRun t → length t ≤ label_len c cs
   unfolding label_len
   label_most t b (inl r) = omega (arith, run_within (is_in Operator) (46 ∷ c ∷ cs) t b r.1, no_long_run)
   label_most t b (inr f) =
@@ -114,7 +114,7 @@ module _ (c : ℕ) (cs : Text) (low : is_in Lower c ≡ true) where
       let rest : cs ≡ f.simple.more ++ b.0 = ap (drop 1) tail in
       omega (arith, run_within is_name_byte cs f.simple.more (b.0, rest) f.simple.goes, ap length (f.split ∙ ap (λ x. 46 ∷ x) f.simple.split))
 
-  longest_label : IsLongest IsOperator (46 ∷ c ∷ cs) (take (label_len c cs) (46 ∷ c ∷ cs))
+  longest_label : IsLongest IsFieldOrRun (46 ∷ c ∷ cs) (take (label_len c cs) (46 ∷ c ∷ cs))
   longest_label = record {
     spells = inr label_field;
     front = begins_take (label_len c cs) (46 ∷ c ∷ cs);
@@ -140,12 +140,12 @@ module _ (text : Text) (other : labels text ≡ false) where
   no_field : (t : Text) → Begins t text → IsField t → ⊥
   no_field t b f = absurd (true≢false (sym (shape_labels text (field_labels text t b f)) ∙ other))
 
-  longest_operator : 0 < prefix_len (is_in Operator) text → IsLongest IsOperator text (take (prefix_len (is_in Operator) text) text)
+  longest_operator : 0 < prefix_len (is_in Operator) text → IsLongest IsFieldOrRun text (take (prefix_len (is_in Operator) text) text)
   longest_operator h =
       let l = longest_run Operator text h in
       record { spells = inl l.spells; front = l.front; longest = λ t b o. go t b o (l.longest t b) }
     where
-      go : (t : Text) → Begins t text → IsOperator t → (IsRun Operator t → length t ≤ length (take (prefix_len (is_in Operator) text) text)) → length t ≤ length (take (prefix_len (is_in Operator) text) text)
+      go : (t : Text) → Begins t text → IsFieldOrRun t → (IsRun Operator t → length t ≤ length (take (prefix_len (is_in Operator) text) text)) → length t ≤ length (take (prefix_len (is_in Operator) text) text)
       go t b (inl r) f = f r
       go t b (inr g) f = absurd (no_field t b g)
 
@@ -164,7 +164,7 @@ run_meets joined text other plain h = subst (Meets joined text) (sym (run_is tex
     len : length (take n text) ≡ n
     len = length-prefix_len (is_in Operator) text
 
-    l : IsLongest IsOperator text (take n text)
+    l : IsLongest IsFieldOrRun text (take n text)
     l = longest_operator text other h
 
     r : IsRun Operator (take n text)
@@ -190,7 +190,7 @@ run_first_class : (s rest : Text) → IsRun Operator s → is_in Operator (slice
 run_first_class [] rest r = absurd (omega (arith, r.0))
 run_first_class (b ∷ bs) rest r = (and_parts (is_in Operator b) (list_all (is_in Operator) bs) r.1).0
 
-point_operator : class_of 46 ≡ Operator
+pub point_operator : class_of 46 ≡ Operator
 unfolding class_of
 point_operator = refl
 
@@ -200,17 +200,17 @@ read_as_operator joined text e plain = by_its_class joined text Operator e plain
 point_plain : (text : Text) → slice_index text 0 ≡ 46 → opens 45 45 text ≡ false
 point_plain text e = rw e refl
 
-module _ (joined : Bool) (text s : Text) (l : IsLongest IsOperator text s) where
+module _ (joined : Bool) (text s : Text) (l : IsLongest IsFieldOrRun text s) where
   field_value : IsField s → piece joined text ≡ (if ltb (max_name + 1) (length s) then Err fault.TooLarge else Ok (token (if joined then kind.Access else kind.FieldFunction) (length s)))
   unfolding operator labels
   field_value f =
       let sh = field_labels text s l.front f in
       let first : slice_index text 0 ≡ 46 = ap (λ t. slice_index t 0) sh.split in
-      let l' : IsLongest IsOperator (46 ∷ sh.first ∷ sh.more) s = subst (λ (t : Text). IsLongest IsOperator t s) sh.split l in
+      let l' : IsLongest IsFieldOrRun (46 ∷ sh.first ∷ sh.more) s = subst (λ (t : Text). IsLongest IsFieldOrRun t s) sh.split l in
       let n = label_len sh.first sh.more in
       let within = label_within sh.first sh.more sh.lower in
       let same : length s ≡ n =
-      ap length (longest_len IsOperator (46 ∷ sh.first ∷ sh.more) s n l' within (inr (label_field sh.first sh.more sh.lower)) (label_most sh.first sh.more sh.lower))
+      ap length (longest_len IsFieldOrRun (46 ∷ sh.first ∷ sh.more) s n l' within (inr (label_field sh.first sh.more sh.lower)) (label_most sh.first sh.more sh.lower))
       ∙ length-take-le n (46 ∷ sh.first ∷ sh.more) within
       in
       read_as_operator joined text (ap class_of first ∙ point_operator) (point_plain text first)
@@ -230,7 +230,7 @@ module _ (joined : Bool) (text s : Text) (l : IsLongest IsOperator text s) where
     where
       short : (sh : Labels text) → ⊥
       short sh =
-          let l' : IsLongest IsOperator (46 ∷ sh.first ∷ sh.more) s = subst (λ (t : Text). IsLongest IsOperator t s) sh.split l in
+          let l' : IsLongest IsFieldOrRun (46 ∷ sh.first ∷ sh.more) s = subst (λ (t : Text). IsLongest IsFieldOrRun t s) sh.split l in
           let n = label_len sh.first sh.more in
           let within = label_within sh.first sh.more sh.lower in
           let below = l'.longest (take n (46 ∷ sh.first ∷ sh.more)) (begins_take n (46 ∷ sh.first ∷ sh.more)) (inr (label_field sh.first sh.more sh.lower)) in

@@ -1,5 +1,6 @@
 -- The reader of texts meets the definition, and nothing else does.
 use Rattle.std.proofs.Common.{◌≡◌, ◌≢◌, ℕ, ◌+◌, Bool, true, false, ◌⊎◌, List, [], ◌∷◌, ◌++◌, length, drop, Some, Ok, Err, refl, sym, ap, ◌∙◌, subst, inl, inr, arith, eqb, ne_eqb, append_assoc, length-append}
+use Rattle.std.specs.List.{concat}
 use Rattle.std.specs.Prelude.{slice_index}
 use Rattle.std.proofs.lemmas.Bool.{eqb-true, eqb-false}
 use Rattle.elm_base.specs.declared.token.TokenKind.TheVariants as kind
@@ -7,7 +8,7 @@ use Rattle.elm_base.specs.declared.fault.FaultKind.TheVariants as fault
 use Rattle.layout_lexer.specs.declared.byte_class.Class.TheVariants.{Quote}
 use Rattle.layout_lexer.specs.Chars.{Text, class_of}
 use Rattle.layout_lexer.specs.Marks.{is_escape, opens}
-use Rattle.layout_lexer.specs.Spellings.{Begins, IsLongest, Each, IsPlain, IsEscape, IsQuoted, IsText, joined_units}
+use Rattle.layout_lexer.specs.Spellings.{Begins, IsLongest, Each, IsPlain, IsEscape, IsQuoted, IsText}
 use Rattle.layout_lexer.specs.Comments.{EndsLine, EndsTextLine}
 use Rattle.layout_lexer.specs.Tokens.{text as text_rule, three_quotes, open_text, bad_escape}
 use Rattle.layout_lexer.specs.Pieces.{quoted_text, quoted_from, text_of, token, piece}
@@ -37,9 +38,9 @@ over_unit u more (inr x) at rest next =
     ∙ ap (λ n. quoted_from false n rest) (omega (arith, ap (λ t. length (t ++ more)) x.split))
 
 over_units : (units : List Text) → Each (λ u. IsPlain u ⊎ IsEscape u) units → (at : ℕ) (rest : Text)
-    → quoted_from false at (joined_units units ++ rest) ≡ quoted_from false (at + length (joined_units units)) rest
+    → quoted_from false at (concat units ++ rest) ≡ quoted_from false (at + length (concat units)) rest
 over_units [] each at rest = ap (λ n. quoted_from false n rest) (omega arith)
-over_units (u ∷ us) each at rest = over_unit u (joined_units us) each.0 at rest (λ n. over_units us each.1 n rest)
+over_units (u ∷ us) each at rest = over_unit u (concat us) each.0 at rest (λ n. over_units us each.1 n rest)
 
 over_quoted : (inside rest : Text) → IsQuoted inside → (at : ℕ) → quoted_from false at (inside ++ rest) ≡ quoted_from false (at + length inside) rest
 over_quoted inside rest q at =
@@ -195,7 +196,7 @@ text_meets joined t = go (opens 34 34 t) refl
 
 -- ---- what is read where the definition has a text
 
-quote_class : class_of 34 ≡ Quote
+pub quote_class : class_of 34 ≡ Quote
 unfolding class_of
 quote_class = refl
 
@@ -212,13 +213,13 @@ text_read joined text s plain l =
 pub three_quotes_read : (joined : Bool) (text rest : Text) → text ≡ 34 ∷ 34 ∷ 34 ∷ rest → piece joined text ≡ Err fault.Excluded
 three_quotes_read joined text rest e = ap (piece joined) e ∙ read_as_text joined (34 ∷ 34 ∷ rest) ∙ three_is (34 ∷ 34 ∷ rest) refl
 
-no_quote_first : (units : List Text) (rest : Text) → Each (λ u. IsPlain u ⊎ IsEscape u) units → eqb (slice_index rest 0) 34 ≡ false → eqb (slice_index (joined_units units ++ rest) 0) 34 ≡ false
+no_quote_first : (units : List Text) (rest : Text) → Each (λ u. IsPlain u ⊎ IsEscape u) units → eqb (slice_index rest 0) 34 ≡ false → eqb (slice_index (concat units ++ rest) 0) 34 ≡ false
 no_quote_first [] rest each h = h
 no_quote_first (u ∷ us) rest each h = go u each.0
   where
-    go : (u : Text) → IsPlain u ⊎ IsEscape u → eqb (slice_index ((u ++ joined_units us) ++ rest) 0) 34 ≡ false
-    go u (inl p) = ap (λ t. eqb (slice_index ((t ++ joined_units us) ++ rest) 0) 34) p.split ∙ ne_eqb p.byte 34 p.no_quote
-    go u (inr x) = ap (λ t. eqb (slice_index ((t ++ joined_units us) ++ rest) 0) 34) x.split
+    go : (u : Text) → IsPlain u ⊎ IsEscape u → eqb (slice_index ((u ++ concat us) ++ rest) 0) 34 ≡ false
+    go u (inl p) = ap (λ t. eqb (slice_index ((t ++ concat us) ++ rest) 0) 34) p.split ∙ ne_eqb p.byte 34 p.no_quote
+    go u (inr x) = ap (λ t. eqb (slice_index ((t ++ concat us) ++ rest) 0) 34) x.split
 
 inside_read : (joined : Bool) (text inside rest : Text) → text ≡ 34 ∷ (inside ++ rest) → IsQuoted inside → eqb (slice_index rest 0) 34 ≡ false
     → piece joined text ≡ text_of (quoted_from false (1 + length inside) rest)
