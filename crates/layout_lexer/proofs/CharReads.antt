@@ -1,8 +1,8 @@
 -- The reader of chars meets the definition, and nothing else does.
-use Rattle.std.proofs.Common.{◌≡◌, ◌≢◌, ℕ, zero, suc, ◌+◌, ◌-◌, ◌<◌, ◌≤◌, Bool, true, false, cond, ◌&&◌, ◌||◌, ◌⊎◌, List, [], ◌∷◌, ◌++◌, length, take, drop, get_or, Some, Ok, Err, Result, refl, sym, ap, ◌∙◌, subst, inl, inr, ⊎_elim, arith, eqb, ltb, le-ltb, ne_eqb, append_assoc, length-append, take-append-drop}
+use Rattle.std.proofs.Common.{◌≡◌, ◌≢◌, ℕ, suc, ◌+◌, ◌<◌, Bool, true, false, ◌||◌, ◌⊎◌, [], ◌∷◌, ◌++◌, length, take, drop, get_or, Some, Ok, Err, refl, sym, ap, ◌∙◌, subst, inl, inr, ⊎_elim, arith, eqb, ltb, le-ltb, ne_eqb, append_assoc, length-append, take-append-drop}
 use Rattle.std.specs.Prelude.{slice_index, if◌then◌else◌}
 use Rattle.std.specs.List.{prefix_len, list_all}
-use Rattle.std.proofs.lemmas.Bool.{and_parts, eqb-true, eqb-false, true≢false, cases_lt}
+use Rattle.std.proofs.lemmas.Bool.{eqb-true, eqb-false, true≢false, cases_lt}
 use Rattle.std.proofs.lemmas.List.{get_or_at, drop_more, get_or_past}
 use Rattle.std.proofs.lemmas.List.Folds.{length-prefix_len}
 use Rattle.elm_base.specs.declared.token.TokenKind.TheVariants as kind
@@ -13,7 +13,7 @@ use Rattle.layout_lexer.specs.declared.piece.Piece.{Piece}
 use Rattle.layout_lexer.specs.Chars.{Text, class_of, is_continuation}
 use Rattle.layout_lexer.specs.Marks.{is_escape}
 use Rattle.layout_lexer.specs.Spellings.{Begins, IsLongest, IsOneChar, IsEscape, IsChar}
-use Rattle.layout_lexer.specs.Tokens.{Stands, char, Faulty, bad_char}
+use Rattle.layout_lexer.specs.Tokens.{char, bad_char}
 use Rattle.layout_lexer.specs.Pieces.{Read, character, char_end, token, piece}
 use Rattle.layout_lexer.proofs.Longest.{front_taken, run_ends, run_passes}
 use Rattle.layout_lexer.proofs.Dispatch.{Meets, by_plain_class}
@@ -92,8 +92,10 @@ found_char b cs q x y z f = go (eqb (slice_index (39 ∷ b ∷ cs) (2 + n)) 39) 
   where
     n : ℕ
     n = prefix_len is_continuation cs
+
     at : slice_index (39 ∷ b ∷ cs) (2 + n) ≡ slice_index cs n
     at = let two : 2 + n ≡ suc (suc n) = omega arith in ap (slice_index (39 ∷ b ∷ cs)) two
+
     go : (t : Bool) → eqb (slice_index (39 ∷ b ∷ cs) (2 + n)) 39 ≡ t → (if t then Ok (token kind.Char (2 + n + 1)) else Err fault.BadChar) ≡ Ok q → Found (39 ∷ b ∷ cs) q
     go false g h = absurd (cc)
     go true g h =
@@ -117,6 +119,7 @@ escape_after c cs q f = go (is_escape c) refl f
   where
     quote_escape : is_escape 39 ≡ true
     quote_escape = refl
+
     go : (t : Bool) → is_escape c ≡ t → closed_at (39 ∷ 92 ∷ c ∷ cs) (if t then 3 else 2) ≡ Ok q → Found (39 ∷ 92 ∷ c ∷ cs) q
     go true e g = found_escape c cs q e g
     go false e g = inner (eqb c 39) refl g
@@ -133,10 +136,13 @@ char_found (b ∷ c ∷ cs) q e = go (eqb b 39) refl (eqb b 10) refl (eqb b 92) 
   where
     text : Text
     text = 39 ∷ b ∷ c ∷ cs
+
     long : ltb (length (39 ∷ b ∷ c ∷ cs)) 3 ≡ false
     long = le-ltb (length (39 ∷ b ∷ c ∷ cs)) 3 (omega arith)
+
     shape : (x y : Bool) → eqb b 39 ≡ x → eqb b 10 ≡ y → (if (false || x) || y then Err fault.BadChar else closed_at (39 ∷ b ∷ c ∷ cs) (char_end (39 ∷ b ∷ c ∷ cs))) ≡ Ok q
     shape x y f g = sym (rw (long, f, g) refl) ∙ e
+
     go : (x : Bool) → eqb b 39 ≡ x → (y : Bool) → eqb b 10 ≡ y → (z : Bool) → eqb b 92 ≡ z → Found (39 ∷ b ∷ c ∷ cs) q
     go true f y g z h = let s = shape true y f g in absurd (cc)
     go false f true g z h = let s = shape false true f g in absurd (cc)
@@ -178,7 +184,7 @@ char_meets joined t = go (character (39 ∷ t)) refl
         (char f.spelling (longest_char t f.spelling f.spells f.front) (ap (λ x. record { kind = Some kind.Char; text = x }) (front_taken f.spelling (39 ∷ t) f.front)))
     go (Err k) e = bad_char t refl (λ s b x. ok_or_err (token kind.Char (length s)) k (character (39 ∷ t)) (char_value t s b x) e) (only_bad (39 ∷ t) k e)
 
-apostrophe_class : class_of 39 ≡ Apostrophe
+pub apostrophe_class : class_of 39 ≡ Apostrophe
 unfolding class_of
 apostrophe_class = refl
 

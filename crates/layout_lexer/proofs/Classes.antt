@@ -1,6 +1,6 @@
 -- Kinds of bytes.
-use Rattle.std.proofs.Common.{◌≡◌, ℕ, Bool, true, false, ◌||◌, sym, refl, cond, ap, ◌∙◌}
-use denote.Enum.Bare.{sameb, true_same, same_true}
+use Rattle.std.proofs.Common.{◌≡◌, ℕ, Bool, true, false, ◌||◌, sym, refl, ap, ◌∙◌}
+use denote.Enum.Bare.{true_same, same_true}
 use Rattle.layout_lexer.specs.contracts.byte_class.Class.{the_type}
 use Rattle.layout_lexer.specs.declared.byte_class.Class.{Class}
 use Rattle.layout_lexer.specs.declared.byte_class.Class.TheVariants.{Lower, Upper}

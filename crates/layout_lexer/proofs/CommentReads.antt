@@ -1,18 +1,16 @@
 -- The readers of comments meet the definition, and nothing else does.
-use Rattle.std.proofs.Common.{◌≡◌, ◌≢◌, ℕ, zero, suc, ◌+◌, ◌-◌, ◌<◌, ◌≤◌, Bool, true, false, cond, not, ◌&&◌, ◌⊎◌, List, [], ◌∷◌, ◌++◌, length, take, drop, Option, Some, None, Ok, Err, refl, sym, ap, ◌∙◌, subst, inl, inr, arith, eqb, ne_eqb, append_assoc, length-append, take-append-drop, add-one}
+use Rattle.std.proofs.Common.{◌≡◌, ℕ, zero, suc, ◌+◌, ◌-◌, ◌<◌, Bool, true, false, cond, not, ◌&&◌, [], ◌∷◌, ◌++◌, length, take, drop, Option, Some, None, Ok, Err, refl, sym, ap, ◌∙◌, subst, inl, inr, arith, eqb, ne_eqb, append_assoc, length-append, take-append-drop, add-one}
 use Rattle.std.specs.Prelude.{slice_index, if◌then◌else◌}
 use Rattle.std.specs.List.{prefix_len, list_all}
-use Rattle.std.proofs.lemmas.Bool.{and_parts, eqb-true, eqb-false, true≢false}
-use Rattle.std.proofs.lemmas.List.Folds.{length-prefix_len}
-use Rattle.elm_base.specs.declared.fault.FaultKind.{FaultKind}
+use Rattle.std.proofs.lemmas.Bool.{and_parts, eqb-true}
 use Rattle.elm_base.specs.declared.fault.FaultKind.TheVariants as fault
 use Rattle.layout_lexer.specs.declared.byte_class.Run.TheVariants as over
-use Rattle.layout_lexer.specs.Chars.{Text, past, runs_on}
+use Rattle.layout_lexer.specs.Chars.{Text, past}
 use Rattle.layout_lexer.specs.Marks.{opens}
 use Rattle.layout_lexer.specs.Spellings.{Begins}
 use Rattle.layout_lexer.specs.Comments.{closes_within, Closes, EndsLine, is_line_byte}
-use Rattle.layout_lexer.specs.Tokens.{Stands, comment as comment_rule, line_comment, Faulty, open_comment, blank_part}
-use Rattle.layout_lexer.specs.Pieces.{Read, comment_from, comment_len, comment, closed, blank, piece}
+use Rattle.layout_lexer.specs.Tokens.{comment as comment_rule, line_comment, open_comment, blank_part}
+use Rattle.layout_lexer.specs.Pieces.{comment_from, comment, closed, blank, piece}
 use Rattle.layout_lexer.proofs.Longest.{front_taken, run_ends, run_passes}
 use Rattle.layout_lexer.proofs.Dispatch.{Meets, opens_shape}
 
@@ -164,6 +162,7 @@ found_two depth at end b c cs e further next = go (eqb b 123 && eqb c 45) refl (
   where
     nest : Text → Option ℕ
     nest t = comment_from (depth + 1) false (at + 1 + 1) t
+
     go : (x : Bool) → (eqb b 123 && eqb c 45) ≡ x → (y : Bool) → (eqb b 45 && eqb c 125) ≡ y → Found depth at (b ∷ c ∷ cs) end
     go true f y g =
         let parts = and_parts (eqb b 123) (eqb c 45) f in

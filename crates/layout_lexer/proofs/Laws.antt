@@ -1,17 +1,16 @@
 -- Each text has one list of tokens or one first fault, and not both.
-use Rattle.std.proofs.Common.{◌≡◌, ◌≢◌, ℕ, zero, suc, ◌+◌, ◌<◌, ◌≤◌, Bool, true, false, cond, ◌||◌, ◌⊎◌, List, [], ◌∷◌, ◌++◌, length, take, drop, Option, Some, None, Ok, Err, refl, sym, ap, ◌∙◌, subst, inl, inr, arith, eqb, take-append-drop, length-append, IsUtf8}
+use Rattle.std.proofs.Common.{◌≡◌, ◌≢◌, ℕ, zero, suc, ◌<◌, ◌≤◌, Bool, true, false, ◌||◌, ◌⊎◌, List, [], ◌∷◌, ◌++◌, length, take, drop, Ok, Err, refl, sym, ap, ◌∙◌, subst, inl, inr, arith, eqb, take-append-drop, length-append, IsUtf8}
 use Rattle.std.specs.Str.{IsValidUpTo, is_utf8}
 use Rattle.std.proofs.lemmas.Bool.{eqb-true, true≢false, cases_eq}
 use Rattle.std.proofs.lemmas.List.{take_all}
 use Rattle.std.proofs.lemmas.Str.{utf8_valid_len-IsValidUpTo, IsUtf8-from_is_utf8, is_utf8-from_IsUtf8, IsUtf8-nil}
-use Rattle.std.specs.Str.Lossy.{utf8_valid_len}
 use Rattle.elm_base.specs.declared.fault.FaultKind.{FaultKind}
 use Rattle.elm_base.specs.declared.fault.FaultKind.TheVariants as fault
 use Rattle.layout_lexer.specs.declared.piece.Piece.{Piece}
 use Rattle.layout_lexer.specs.declared.place.TextFault.{TextFault}
 use Rattle.layout_lexer.specs.Chars.{Text, class_of, is_among}
 use Rattle.layout_lexer.specs.Lexemes.{Lexeme, fault_after}
-use Rattle.layout_lexer.specs.Cuts.{Part, Cut, joins, texts, lexemes, HasBadByte, HasTab, HasBadToken, HasNoTab}
+use Rattle.layout_lexer.specs.Cuts.{Part, Cut, joins, texts, lexemes, HasBadByte, HasTab, HasNoTab}
 use Rattle.layout_lexer.specs.Tokens.{Stands, Faulty, Tokens, FirstFault}
 use Rattle.layout_lexer.specs.Pieces.{Read, piece, spelling}
 use Rattle.layout_lexer.specs.Scan.{piece_of, Reads, Refuses, Scans, Stops}
@@ -88,7 +87,7 @@ same_cut joined text (p ∷ ps) (q ∷ qs) r s c e d f =
     let part : p ≡ q = λ i. record { kind = (piece_same i).kind; text = spelled i } in
     let rest : c.0 ≡ d.0 = sym (front_dropped p.text text (c.0, c.1)) ∙ ap (λ (n : ℕ). drop n text) len ∙ front_dropped q.text text (d.0, d.1) in
     let there : Cut Stands (joins q.kind q.text) d.0 ps r =
-        subst (λ (t : Text). Cut Stands (joins q.kind q.text) t ps r) rest (subst (λ (x : Part). Cut Stands (joins x.kind x.text) c.0 ps r) part c.3) in
+    subst (λ (t : Text). Cut Stands (joins q.kind q.text) t ps r) rest (subst (λ (x : Part). Cut Stands (joins x.kind x.text) c.0 ps r) part c.3) in
     let more = same_cut (joins q.kind q.text) d.0 ps qs r s there e d.3 f in
     ((λ i. part i ∷ more.0 i), more.1)
 
@@ -185,18 +184,21 @@ greatest text (suc n) f = go (is_utf8 (take (suc n) text)) refl (λ g. greatest 
       where
         order : (m : ℕ) → (m ≡ suc n) ⊎ (m ≢ suc n)
         order m = cases_eq m (suc n)
+
         by_order : (m : ℕ) → n < m → (m ≡ suc n) ⊎ (m ≢ suc n) → is_utf8 (take m text) ≡ false
         by_order m l (inl s) = ap (λ (k : ℕ). is_utf8 (take k text)) s ∙ e
         by_order m l (inr s) = f m (omega arith)
 
 bad_place : (text : Text) → is_utf8 text ≡ false → (n : ℕ) × IsValidUpTo text n
 bad_place text e =
-    let g = greatest text (length text) (λ m l. ap is_utf8 (take_all m text (omega arith)) ∙ e) in
-    (g.place, record {
-      short = below g.place (length text) g.low (λ s. true≢false (sym g.front ∙ ap (λ (k : ℕ). is_utf8 (take k text)) s ∙ ap is_utf8 (all_taken text) ∙ e));
-      front = IsUtf8-from_is_utf8 (take g.place text) g.front;
-      longest = λ m l u. true≢false (sym (is_utf8-from_IsUtf8 (take m text) u) ∙ g.above m l);
-    })
+    let g = greatest text (length text) (λ m l. ap is_utf8 (take_all m text (omega arith)) ∙ e) in (
+      g.place,
+      record {
+        short = below g.place (length text) g.low (λ s. true≢false (sym g.front ∙ ap (λ (k : ℕ). is_utf8 (take k text)) s ∙ ap is_utf8 (all_taken text) ∙ e));
+        front = IsUtf8-from_is_utf8 (take g.place text) g.front;
+        longest = λ m l u. true≢false (sym (is_utf8-from_IsUtf8 (take m text) u) ∙ g.above m l);
+      },
+    )
   where
     below : (a b : ℕ) → a ≤ b → (a ≡ b → ⊥) → a < b
     below a b h f = omega arith
@@ -212,6 +214,7 @@ one_or_other text = go (is_utf8 text) refl (is_among text 9) refl
         by_end : Ends c.rest → ((list : List Lexeme) × Tokens text list) ⊎ ((f : TextFault) × FirstFault text f)
         by_end (inl e) = inl (lexemes [] c.parts, record { utf8 = u; no_tab = n; parts = c.parts; cut = subst (Cut Stands false text c.parts) e c.cut; same = refl })
         by_end (inr g) = inr (fault_after (texts c.parts) g.0, inr (inr (record { utf8 = u; no_tab = n; parts = c.parts; rest = c.rest; cut = c.cut; kind = g.0; faulty = g.1; same = refl })))
+
     go : (x : Bool) → is_utf8 text ≡ x → (y : Bool) → is_among text 9 ≡ y → ((list : List Lexeme) × Tokens text list) ⊎ ((f : TextFault) × FirstFault text f)
     go false e y g = let b = bad_place text e in inr (fault_after (take b.0 text) fault.NotUtf8, inl (record { place = b.0; bad = b.1; same = refl }))
     go true e true g =

@@ -1,5 +1,5 @@
 -- What has been read of a text so far.
-use Rattle.std.proofs.Common.{◌≡◌, ℕ, ◌+◌, ◌<◌, Bool, true, false, List, [], ◌∷◌, ◌++◌, length, map, Option, Some, None, Ok, Err, refl, sym, ap, ◌∙◌, subst, append_assoc, append-nil, arith}
+use Rattle.std.proofs.Common.{◌≡◌, ◌<◌, Bool, false, List, [], ◌∷◌, ◌++◌, length, map, Option, Some, None, Ok, Err, refl, sym, ap, ◌∙◌, subst, append_assoc, append-nil}
 use Rattle.std.specs.Str.{IsUtf8}
 use Rattle.elm_base.specs.declared.token.At.{At}
 use Rattle.elm_base.specs.declared.token.Token.{Token}
@@ -7,13 +7,12 @@ use Rattle.elm_base.specs.declared.token.TokenKind.{TokenKind}
 use Rattle.std.proofs.lemmas.List.{map-append}
 use Rattle.elm_base.specs.declared.fault.FaultKind.{FaultKind}
 use Rattle.layout_lexer.specs.declared.piece.Piece.{Piece}
-use Rattle.layout_lexer.specs.declared.place.TextFault.{TextFault}
 use Rattle.layout_lexer.specs.Chars.{Text}
 use Rattle.layout_lexer.specs.Places.{place_after, steps}
-use Rattle.layout_lexer.specs.Lexemes.{Lexeme, lexeme, fault_after}
+use Rattle.layout_lexer.specs.Lexemes.{Lexeme, lexeme}
 use Rattle.layout_lexer.specs.Cuts.{Part, Cut, texts, joins, joined_after, lexemes, listed, HasNoTab, HasBadToken}
 use Rattle.layout_lexer.specs.Pieces.{piece}
-use Rattle.layout_lexer.specs.Scan.{Reads, Refuses, Scans, Stops}
+use Rattle.layout_lexer.specs.Scan.{Reads, Refuses, Scans}
 use Rattle.layout_lexer.proofs.Places.{steps_more}
 
 -- ---- a part more

@@ -9,6 +9,7 @@ pub mod TextReads
 pub mod CharReads
 pub mod CommentReads
 pub mod Whole
+pub mod Families
 pub mod Laws
 pub mod Contract
 pub mod Dispatch

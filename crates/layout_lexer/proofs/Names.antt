@@ -1,19 +1,16 @@
 -- The plain function reads the longest name, and says of which kind it is.
-use Rattle.std.proofs.Common.{◌≡◌, ◌≢◌, ℕ, zero, suc, ◌+◌, ◌<◌, ◌≤◌, Bool, true, false, ◌&&◌, ◌||◌, cond, ◌⊎◌, List, [], ◌∷◌, ◌++◌, length, take, drop, refl, sym, ap, ◌∙◌, subst, arith, inl, inr, append_assoc, append-nil, length-append, eqb}
+use Rattle.std.proofs.Common.{◌≡◌, ℕ, suc, ◌+◌, ◌≤◌, Bool, true, false, ◌&&◌, ◌||◌, cond, List, [], ◌∷◌, ◌++◌, length, take, refl, sym, ap, ◌∙◌, subst, arith, append_assoc, append-nil, length-append, eqb}
 use Rattle.std.specs.List.{list_all}
 use Rattle.std.specs.Prelude.{slice_index}
 use Rattle.std.proofs.lemmas.Bool.{and_parts, and_from, eqb-true, true≢false}
 use Rattle.elm_base.specs.declared.token.TokenKind.{TokenKind}
-use Rattle.elm_base.specs.declared.token.TokenKind.TheVariants as kind
-use denote.Enum.Bare.{sameb, same_true, true_same}
-use Rattle.layout_lexer.specs.contracts.byte_class.Class.{the_type}
 use Rattle.layout_lexer.specs.declared.byte_class.Class.{Class}
-use Rattle.layout_lexer.specs.declared.byte_class.Class.TheVariants.{Lower, Upper, Digit}
+use Rattle.layout_lexer.specs.declared.byte_class.Class.TheVariants.{Lower, Upper}
 use Rattle.layout_lexer.specs.Chars.{Text, class_of, is_in, is_letter, is_name_byte}
-use Rattle.layout_lexer.specs.Spellings.{Begins, IsLongest, IsSimple, IsQualified, dotted, Each}
+use Rattle.layout_lexer.specs.Spellings.{Begins, IsSimple, IsQualified, dotted, Each}
 use Rattle.layout_lexer.specs.Pieces.{name_from, name_end, name_kind}
 use Rattle.layout_lexer.proofs.Longest.{front_within, front_taken}
-use Rattle.layout_lexer.proofs.Classes.{is_in_its, its_class, lower_is_letter, upper_is_letter}
+use Rattle.layout_lexer.proofs.Classes.{its_class, lower_is_letter, upper_is_letter}
 
 pub letter_is_name : (b : ℕ) → is_letter b ≡ true → is_name_byte b ≡ true
 letter_is_name b e = rw e
@@ -187,6 +184,7 @@ continues u at (b ∷ c ∷ cs) = go (is_name_byte b) refl (u && eqb b 46 && is_
     point true true false h = cc
     point true false z h = cc
     point false y z h = cc
+
     go : (s : Bool) → is_name_byte b ≡ s → (t : Bool) → (u && eqb b 46 && is_letter c) ≡ t
         → Continues u (at + 1) (c ∷ cs) → Continues (is_in Upper c) (at + 1 + 1) cs → Continues u at (b ∷ c ∷ cs)
     go true e t f next after = goes_on u at b (c ∷ cs) e next
@@ -216,9 +214,9 @@ reads_name_of b bs e c =
       name = subst (IsQualified (kind_class c.last)) (sym (ap (λ n. take n (b ∷ bs)) len ∙ ap (λ t. b ∷ t) (front_taken c.more bs c.front))) (c.name (b ∷ []) (simple_letter b e));
       most = λ w t front q.
           let over : name_end (b ∷ bs) ≡ name_from w (length t) front.0 =
-              ap name_end (front.1 ∙ ap (λ x. x ++ front.0) q.split)
-              ∙ over_qualified w q.modules q.last q.upper q.simple 0 front.0
-              ∙ ap (λ n. name_from w n front.0) (ap (λ x. 0 + length x) (sym q.split) ∙ omega arith)
+          ap name_end (front.1 ∙ ap (λ x. x ++ front.0) q.split)
+          ∙ over_qualified w q.modules q.last q.upper q.simple 0 front.0
+          ∙ ap (λ n. name_from w n front.0) (ap (λ x. 0 + length x) (sym q.split) ∙ omega arith)
           in
           let g = grows w (length t) front.0 in
           let ends = ap (λ r. r.1) over in

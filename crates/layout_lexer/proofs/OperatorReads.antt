@@ -1,5 +1,5 @@
 -- The reader of labels and operators meets the definition, and nothing else does.
-use Rattle.std.proofs.Common.{◌≡◌, ◌≢◌, ℕ, zero, suc, ◌+◌, ◌-◌, ◌<◌, ◌≤◌, Bool, true, false, cond, ◌&&◌, ◌⊎◌, List, [], ◌∷◌, ◌++◌, length, take, drop, Ok, Err, refl, sym, ap, ◌∙◌, subst, inl, inr, arith, ltb, eqb, ltb-true, ltb-false, lt-ltb, le-ltb, zero-add, length-append, length-take-le, take-append-drop}
+use Rattle.std.proofs.Common.{◌≡◌, ℕ, suc, ◌+◌, ◌<◌, ◌≤◌, Bool, true, false, cond, ◌&&◌, [], ◌∷◌, ◌++◌, length, take, drop, Ok, Err, refl, sym, ap, ◌∙◌, subst, inl, inr, arith, ltb, eqb, ltb-true, ltb-false, lt-ltb, le-ltb, zero-add, length-take-le}
 use Rattle.std.specs.List.{prefix_len, list_all}
 use Rattle.std.specs.Prelude.{slice_index, if◌then◌else◌}
 use Rattle.std.proofs.lemmas.Bool.{and_parts, and_from, eqb-true, true≢false}
@@ -9,11 +9,10 @@ use Rattle.elm_base.specs.declared.token.TokenKind.TheVariants as kind
 use Rattle.elm_base.specs.declared.fault.FaultKind.TheVariants as fault
 use Rattle.layout_lexer.specs.declared.byte_class.Class.TheVariants.{Operator, Lower}
 use Rattle.layout_lexer.specs.declared.byte_class.Run.TheVariants as over
-use Rattle.layout_lexer.specs.declared.name.TheConstants.{MAX_NAME}
 use Rattle.layout_lexer.specs.Chars.{Text, class_of, is_in, is_name_byte, past}
-use Rattle.layout_lexer.specs.Marks.{is_listed, symbol_runs, opens}
-use Rattle.layout_lexer.specs.Spellings.{Begins, IsLongest, IsRun, IsField, IsSimple, IsOperator}
-use Rattle.layout_lexer.specs.Tokens.{Stands, field, operator as operator_rule, Faulty, long_field, long_operator}
+use Rattle.layout_lexer.specs.Marks.{max_name, is_listed, symbol_runs, opens}
+use Rattle.layout_lexer.specs.Spellings.{Begins, IsLongest, IsRun, IsField, IsFieldOrRun}
+use Rattle.layout_lexer.specs.Tokens.{field, operator as operator_rule, long_field, long_operator}
 use Rattle.layout_lexer.specs.Pieces.{Read, operator, label, run, token, piece}
 use Rattle.layout_lexer.proofs.Classes.{its_class, lower_is_letter}
 use Rattle.layout_lexer.proofs.Names.{letter_is_name}
@@ -62,6 +61,7 @@ lower_is_no_operator c e = go (is_in Operator c) refl
   where
     apart : class_of c ≡ Lower → class_of c ≡ Operator → ⊥
     apart p q = cc
+
     go : (t : Bool) → is_in Operator c ≡ t → t ≡ false
     go false f = refl
     go true f = absurd (apart (its_class Lower c e) (its_class Operator c f))
@@ -106,7 +106,7 @@ module _ (c : ℕ) (cs : Text) (low : is_in Lower c ≡ true) where
       go true = omega arith
       go false = omega arith
 
-  label_most : (t : Text) → Begins t (46 ∷ c ∷ cs) → IsOperator t → length t ≤ label_len c cs
+  label_most : (t : Text) → Begins t (46 ∷ c ∷ cs) → IsFieldOrRun t → length t ≤ label_len c cs
   unfolding label_len
   label_most t b (inl r) = omega (arith, run_within (is_in Operator) (46 ∷ c ∷ cs) t b r.1, no_long_run)
   label_most t b (inr f) =
@@ -114,7 +114,7 @@ module _ (c : ℕ) (cs : Text) (low : is_in Lower c ≡ true) where
       let rest : cs ≡ f.simple.more ++ b.0 = ap (drop 1) tail in
       omega (arith, run_within is_name_byte cs f.simple.more (b.0, rest) f.simple.goes, ap length (f.split ∙ ap (λ x. 46 ∷ x) f.simple.split))
 
-  longest_label : IsLongest IsOperator (46 ∷ c ∷ cs) (take (label_len c cs) (46 ∷ c ∷ cs))
+  longest_label : IsLongest IsFieldOrRun (46 ∷ c ∷ cs) (take (label_len c cs) (46 ∷ c ∷ cs))
   longest_label = record {
     spells = inr label_field;
     front = begins_take (label_len c cs) (46 ∷ c ∷ cs);
@@ -122,15 +122,17 @@ module _ (c : ℕ) (cs : Text) (low : is_in Lower c ≡ true) where
   }
 
   label_meets : (joined : Bool) → Meets joined (46 ∷ c ∷ cs) (label joined (46 ∷ c ∷ cs))
-  label_meets joined = subst (λ (n : ℕ). Meets joined (46 ∷ c ∷ cs) (if ltb (MAX_NAME + 1) n then Err fault.TooLarge else Ok (token (if joined then kind.Access else kind.FieldFunction) n))) (sym past_label) (go (ltb (MAX_NAME + 1) n) refl)
+  label_meets joined = subst (λ (n : ℕ). Meets joined (46 ∷ c ∷ cs) (if ltb (max_name + 1) n then Err fault.TooLarge else Ok (token (if joined then kind.Access else kind.FieldFunction) n))) (sym past_label) (go (ltb (max_name + 1) n) refl)
     where
       n : ℕ
       n = label_len c cs
+
       len : length (take n (46 ∷ c ∷ cs)) ≡ n
       len = length-take-le n (46 ∷ c ∷ cs) label_within
-      go : (t : Bool) → ltb (MAX_NAME + 1) n ≡ t → Meets joined (46 ∷ c ∷ cs) (if t then Err fault.TooLarge else Ok (token (if joined then kind.Access else kind.FieldFunction) n))
-      go true e = long_field (take n (46 ∷ c ∷ cs)) longest_label label_field (subst (λ (k : ℕ). MAX_NAME + 1 < k) (sym len) (ltb-true (MAX_NAME + 1) n e)) refl
-      go false e = field (take n (46 ∷ c ∷ cs)) longest_label label_field (subst (λ (k : ℕ). k ≤ MAX_NAME + 1) (sym len) (ltb-false (MAX_NAME + 1) n e)) refl
+
+      go : (t : Bool) → ltb (max_name + 1) n ≡ t → Meets joined (46 ∷ c ∷ cs) (if t then Err fault.TooLarge else Ok (token (if joined then kind.Access else kind.FieldFunction) n))
+      go true e = long_field (take n (46 ∷ c ∷ cs)) longest_label label_field (subst (λ (k : ℕ). max_name + 1 < k) (sym len) (ltb-true (max_name + 1) n e)) refl
+      go false e = field (take n (46 ∷ c ∷ cs)) longest_label label_field (subst (λ (k : ℕ). k ≤ max_name + 1) (sym len) (ltb-false (max_name + 1) n e)) refl
 
 -- ---- a run
 
@@ -138,35 +140,39 @@ module _ (text : Text) (other : labels text ≡ false) where
   no_field : (t : Text) → Begins t text → IsField t → ⊥
   no_field t b f = absurd (true≢false (sym (shape_labels text (field_labels text t b f)) ∙ other))
 
-  longest_operator : 0 < prefix_len (is_in Operator) text → IsLongest IsOperator text (take (prefix_len (is_in Operator) text) text)
+  longest_operator : 0 < prefix_len (is_in Operator) text → IsLongest IsFieldOrRun text (take (prefix_len (is_in Operator) text) text)
   longest_operator h =
       let l = longest_run Operator text h in
       record { spells = inl l.spells; front = l.front; longest = λ t b o. go t b o (l.longest t b) }
     where
-      go : (t : Text) → Begins t text → IsOperator t → (IsRun Operator t → length t ≤ length (take (prefix_len (is_in Operator) text) text)) → length t ≤ length (take (prefix_len (is_in Operator) text) text)
+      go : (t : Text) → Begins t text → IsFieldOrRun t → (IsRun Operator t → length t ≤ length (take (prefix_len (is_in Operator) text) text)) → length t ≤ length (take (prefix_len (is_in Operator) text) text)
       go t b (inl r) f = f r
       go t b (inr g) f = absurd (no_field t b g)
 
 abbrev run_at : Text → ℕ → Read
-run_at text end = if ltb MAX_NAME end then Err fault.TooLarge else Ok (token (if is_listed symbol_runs (take end text) then kind.Symbol else kind.Operator) end)
+run_at text end = if ltb max_name end then Err fault.TooLarge else Ok (token (if is_listed symbol_runs (take end text) then kind.Symbol else kind.Operator) end)
 
 run_is : (text : Text) → run text ≡ run_at text (prefix_len (is_in Operator) text)
 run_is text = ap (run_at text) (zero-add (prefix_len (is_in Operator) text))
 
 run_meets : (joined : Bool) (text : Text) → labels text ≡ false → opens 45 45 text ≡ false → 0 < prefix_len (is_in Operator) text → Meets joined text (run text)
-run_meets joined text other plain h = subst (Meets joined text) (sym (run_is text)) (go (ltb MAX_NAME n) refl)
+run_meets joined text other plain h = subst (Meets joined text) (sym (run_is text)) (go (ltb max_name n) refl)
   where
     n : ℕ
     n = prefix_len (is_in Operator) text
+
     len : length (take n text) ≡ n
     len = length-prefix_len (is_in Operator) text
-    l : IsLongest IsOperator text (take n text)
+
+    l : IsLongest IsFieldOrRun text (take n text)
     l = longest_operator text other h
+
     r : IsRun Operator (take n text)
     r = (longest_run Operator text h).spells
-    go : (t : Bool) → ltb MAX_NAME n ≡ t → Meets joined text (if t then Err fault.TooLarge else Ok (token (if is_listed symbol_runs (take n text) then kind.Symbol else kind.Operator) n))
-    go true e = long_operator (take n text) plain l r (subst (λ (k : ℕ). MAX_NAME < k) (sym len) (ltb-true MAX_NAME n e)) refl
-    go false e = operator_rule (take n text) plain l r (subst (λ (k : ℕ). k ≤ MAX_NAME) (sym len) (ltb-false MAX_NAME n e)) refl
+
+    go : (t : Bool) → ltb max_name n ≡ t → Meets joined text (if t then Err fault.TooLarge else Ok (token (if is_listed symbol_runs (take n text) then kind.Symbol else kind.Operator) n))
+    go true e = long_operator (take n text) plain l r (subst (λ (k : ℕ). max_name < k) (sym len) (ltb-true max_name n e)) refl
+    go false e = operator_rule (take n text) plain l r (subst (λ (k : ℕ). k ≤ max_name) (sym len) (ltb-false max_name n e)) refl
 
 pub operator_meets : (joined : Bool) (text : Text) → opens 45 45 text ≡ false → 0 < prefix_len (is_in Operator) text → Meets joined text (operator joined text)
 unfolding operator labels
@@ -184,7 +190,7 @@ run_first_class : (s rest : Text) → IsRun Operator s → is_in Operator (slice
 run_first_class [] rest r = absurd (omega (arith, r.0))
 run_first_class (b ∷ bs) rest r = (and_parts (is_in Operator b) (list_all (is_in Operator) bs) r.1).0
 
-point_operator : class_of 46 ≡ Operator
+pub point_operator : class_of 46 ≡ Operator
 unfolding class_of
 point_operator = refl
 
@@ -194,29 +200,29 @@ read_as_operator joined text e plain = by_its_class joined text Operator e plain
 point_plain : (text : Text) → slice_index text 0 ≡ 46 → opens 45 45 text ≡ false
 point_plain text e = rw e refl
 
-module _ (joined : Bool) (text s : Text) (l : IsLongest IsOperator text s) where
-  field_value : IsField s → piece joined text ≡ (if ltb (MAX_NAME + 1) (length s) then Err fault.TooLarge else Ok (token (if joined then kind.Access else kind.FieldFunction) (length s)))
+module _ (joined : Bool) (text s : Text) (l : IsLongest IsFieldOrRun text s) where
+  field_value : IsField s → piece joined text ≡ (if ltb (max_name + 1) (length s) then Err fault.TooLarge else Ok (token (if joined then kind.Access else kind.FieldFunction) (length s)))
   unfolding operator labels
   field_value f =
       let sh = field_labels text s l.front f in
       let first : slice_index text 0 ≡ 46 = ap (λ t. slice_index t 0) sh.split in
-      let l' : IsLongest IsOperator (46 ∷ sh.first ∷ sh.more) s = subst (λ (t : Text). IsLongest IsOperator t s) sh.split l in
+      let l' : IsLongest IsFieldOrRun (46 ∷ sh.first ∷ sh.more) s = subst (λ (t : Text). IsLongest IsFieldOrRun t s) sh.split l in
       let n = label_len sh.first sh.more in
       let within = label_within sh.first sh.more sh.lower in
       let same : length s ≡ n =
-          ap length (longest_len IsOperator (46 ∷ sh.first ∷ sh.more) s n l' within (inr (label_field sh.first sh.more sh.lower)) (label_most sh.first sh.more sh.lower))
-          ∙ length-take-le n (46 ∷ sh.first ∷ sh.more) within
+      ap length (longest_len IsFieldOrRun (46 ∷ sh.first ∷ sh.more) s n l' within (inr (label_field sh.first sh.more sh.lower)) (label_most sh.first sh.more sh.lower))
+      ∙ length-take-le n (46 ∷ sh.first ∷ sh.more) within
       in
       read_as_operator joined text (ap class_of first ∙ point_operator) (point_plain text first)
       ∙ ap (λ (t : Bool). cond t (label joined text) (run text)) (shape_labels text sh)
       ∙ ap (label joined) sh.split
-      ∙ ap (λ (k : ℕ). if ltb (MAX_NAME + 1) k then Err fault.TooLarge else Ok (token (if joined then kind.Access else kind.FieldFunction) k)) (past_label sh.first sh.more sh.lower ∙ sym same)
+      ∙ ap (λ (k : ℕ). if ltb (max_name + 1) k then Err fault.TooLarge else Ok (token (if joined then kind.Access else kind.FieldFunction) k)) (past_label sh.first sh.more sh.lower ∙ sym same)
 
-  pub field_read : IsField s → length s ≤ MAX_NAME + 1 → piece joined text ≡ Ok (token (if joined then kind.Access else kind.FieldFunction) (length s))
-  field_read f h = field_value f ∙ rw (le-ltb (MAX_NAME + 1) (length s) h) refl
+  pub field_read : IsField s → length s ≤ max_name + 1 → piece joined text ≡ Ok (token (if joined then kind.Access else kind.FieldFunction) (length s))
+  field_read f h = field_value f ∙ rw (le-ltb (max_name + 1) (length s) h) refl
 
-  pub long_field_read : IsField s → MAX_NAME + 1 < length s → piece joined text ≡ Err fault.TooLarge
-  long_field_read f h = field_value f ∙ rw (lt-ltb (MAX_NAME + 1) (length s) h) refl
+  pub long_field_read : IsField s → max_name + 1 < length s → piece joined text ≡ Err fault.TooLarge
+  long_field_read f h = field_value f ∙ rw (lt-ltb (max_name + 1) (length s) h) refl
 
   -- a run that is the longest has no label in its place
   no_label : IsRun Operator s → labels text ≡ false
@@ -224,18 +230,19 @@ module _ (joined : Bool) (text s : Text) (l : IsLongest IsOperator text s) where
     where
       short : (sh : Labels text) → ⊥
       short sh =
-          let l' : IsLongest IsOperator (46 ∷ sh.first ∷ sh.more) s = subst (λ (t : Text). IsLongest IsOperator t s) sh.split l in
+          let l' : IsLongest IsFieldOrRun (46 ∷ sh.first ∷ sh.more) s = subst (λ (t : Text). IsLongest IsFieldOrRun t s) sh.split l in
           let n = label_len sh.first sh.more in
           let within = label_within sh.first sh.more sh.lower in
           let below = l'.longest (take n (46 ∷ sh.first ∷ sh.more)) (begins_take n (46 ∷ sh.first ∷ sh.more)) (inr (label_field sh.first sh.more sh.lower)) in
           let run = run_within (is_in Operator) (46 ∷ sh.first ∷ sh.more) s l'.front r.1 in
           let one = no_long_run sh.first sh.more sh.lower in
           omega (arith, length-take-le n (46 ∷ sh.first ∷ sh.more) within, label_long sh.first sh.more)
+
       go : (t : Bool) → labels text ≡ t → t ≡ false
       go false e = refl
       go true e = absurd (short (labels_shape text e))
 
-  run_value : IsRun Operator s → opens 45 45 text ≡ false → piece joined text ≡ (if ltb MAX_NAME (length s) then Err fault.TooLarge else Ok (token (if is_listed symbol_runs s then kind.Symbol else kind.Operator) (length s)))
+  run_value : IsRun Operator s → opens 45 45 text ≡ false → piece joined text ≡ (if ltb max_name (length s) then Err fault.TooLarge else Ok (token (if is_listed symbol_runs s then kind.Symbol else kind.Operator) (length s)))
   unfolding operator labels
   run_value r plain =
       let first = ap (λ t. is_in Operator (slice_index t 0)) l.front.1 ∙ run_first_class s l.front.0 r in
@@ -245,10 +252,10 @@ module _ (joined : Bool) (text s : Text) (l : IsLongest IsOperator text s) where
       ∙ ap (λ (t : Bool). cond t (label joined text) (run text)) (no_label r)
       ∙ run_is text
       ∙ ap (run_at text) (sym same)
-      ∙ ap (λ (t : Text). if ltb MAX_NAME (length s) then Err fault.TooLarge else Ok (token (if is_listed symbol_runs t then kind.Symbol else kind.Operator) (length s))) (front_taken s text l.front)
+      ∙ ap (λ (t : Text). if ltb max_name (length s) then Err fault.TooLarge else Ok (token (if is_listed symbol_runs t then kind.Symbol else kind.Operator) (length s))) (front_taken s text l.front)
 
-  pub run_read : IsRun Operator s → opens 45 45 text ≡ false → length s ≤ MAX_NAME → piece joined text ≡ Ok (token (if is_listed symbol_runs s then kind.Symbol else kind.Operator) (length s))
-  run_read r plain h = run_value r plain ∙ rw (le-ltb MAX_NAME (length s) h) refl
+  pub run_read : IsRun Operator s → opens 45 45 text ≡ false → length s ≤ max_name → piece joined text ≡ Ok (token (if is_listed symbol_runs s then kind.Symbol else kind.Operator) (length s))
+  run_read r plain h = run_value r plain ∙ rw (le-ltb max_name (length s) h) refl
 
-  pub long_run_read : IsRun Operator s → opens 45 45 text ≡ false → MAX_NAME < length s → piece joined text ≡ Err fault.TooLarge
-  long_run_read r plain h = run_value r plain ∙ rw (lt-ltb MAX_NAME (length s) h) refl
+  pub long_run_read : IsRun Operator s → opens 45 45 text ≡ false → max_name < length s → piece joined text ≡ Err fault.TooLarge
+  long_run_read r plain h = run_value r plain ∙ rw (lt-ltb max_name (length s) h) refl

@@ -1,9 +1,7 @@
 -- A place after two texts, from the place after the first.
-use Rattle.std.proofs.Common.{◌≡◌, ◌≢◌, ℕ, suc, ◌+◌, ◌-◌, ◌<◌, ◌≤◌, ◌^◌, Bool, true, false, cond, List, [], ◌∷◌, ◌++◌, reverse, refl, sym, ap, ◌∙◌, subst, append_assoc, append-nil, arith, eqb}
+use Rattle.std.proofs.Common.{◌≡◌, ℕ, ◌+◌, Bool, true, false, cond, [], ◌∷◌, ◌++◌, reverse, refl, sym, ap, ◌∙◌, append_assoc, append-nil, arith, eqb}
 use Rattle.std.proofs.lemmas.List.{reverse-append}
-use Rattle.std.proofs.lemmas.Grind.{fold-append, common_steps}
-use Rattle.elm_base.specs.declared.token.At.{At}
-use Rattle.std.specs.Prelude.{◌==◌}
+use Rattle.std.proofs.lemmas.Grind.{fold-append}
 use Rattle.layout_lexer.specs.Chars.{Text, is_continuation}
 use Rattle.layout_lexer.specs.Places.{counted, newlines, chars_back, place_after, step, steps}
 

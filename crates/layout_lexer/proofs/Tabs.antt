@@ -1,16 +1,13 @@
 -- Tabs, as they are searched and as they are defined.
-use Rattle.std.proofs.Common.{◌≡◌, ◌≢◌, ℕ, zero, suc, ◌+◌, ◌<◌, ◌≤◌, Bool, true, false, ◌||◌, cond, List, [], ◌∷◌, ◌++◌, length, get_or, take, drop, ⊎_elim, refl, sym, ap, ◌∙◌, subst, arith, take-append-drop, length-take, get_or-take, eqb}
-use Rattle.std.specs.List.{list_any}
-use Rattle.std.specs.Prelude.{◌==◌, ◌⊎◌}
+use Rattle.std.proofs.Common.{◌≡◌, ℕ, suc, ◌+◌, ◌<◌, Bool, true, false, ◌||◌, [], ◌∷◌, ◌++◌, length, get_or, take, drop, refl, sym, ap, ◌∙◌, arith, take-append-drop, length-take, get_or-take, eqb}
 use Rattle.std.specs.Str.{IsUtf8}
 use Rattle.std.proofs.lemmas.Bool.{eqb-true}
 use Rattle.std.proofs.lemmas.List.{drop_more}
-use Rattle.memchr.specs.Find.{IsFirst, Nowhere, NoneBefore, Passes, is_byte}
+use Rattle.memchr.specs.Find.{Nowhere, NoneBefore, Passes, is_byte}
 use Rattle.elm_base.specs.declared.fault.FaultKind.TheVariants as fault
-use Rattle.layout_lexer.specs.declared.place.TextFault.{TextFault}
 use Rattle.layout_lexer.specs.Chars.{Text, is_among}
 use Rattle.layout_lexer.specs.Lexemes.{fault_after}
-use Rattle.layout_lexer.specs.Cuts.{HasNoTab, HasTab, HasBadByte}
+use Rattle.layout_lexer.specs.Cuts.{HasNoTab, HasTab}
 
 none_from_all : (text : Text) → ((k : ℕ) → k < length text → eqb (get_or text k 0) 9 ≡ true → ⊥) → HasNoTab text
 none_from_all [] f = refl

@@ -1,20 +1,17 @@
 -- The reader of texts meets the definition, and nothing else does.
-use Rattle.std.proofs.Common.{◌≡◌, ◌≢◌, ℕ, zero, suc, ◌+◌, ◌-◌, ◌<◌, ◌≤◌, Bool, true, false, cond, ◌&&◌, ◌||◌, ◌⊎◌, List, [], ◌∷◌, ◌++◌, length, take, drop, Some, Ok, Err, Result, refl, sym, ap, ◌∙◌, subst, inl, inr, arith, eqb, ne_eqb, append_assoc, length-append}
-use Rattle.std.specs.Prelude.{slice_index, if◌then◌else◌}
-use Rattle.std.proofs.lemmas.Bool.{and_parts, and_from, eqb-true, eqb-false, true≢false}
-use Rattle.std.specs.Char.{is_ascii_lowercase, is_ascii_uppercase, is_ascii_digit}
+use Rattle.std.proofs.Common.{◌≡◌, ◌≢◌, ℕ, ◌+◌, Bool, true, false, ◌⊎◌, List, [], ◌∷◌, ◌++◌, length, drop, Some, Ok, Err, refl, sym, ap, ◌∙◌, subst, inl, inr, arith, eqb, ne_eqb, append_assoc, length-append}
+use Rattle.std.specs.List.{concat}
+use Rattle.std.specs.Prelude.{slice_index}
+use Rattle.std.proofs.lemmas.Bool.{eqb-true, eqb-false}
 use Rattle.elm_base.specs.declared.token.TokenKind.TheVariants as kind
-use Rattle.elm_base.specs.declared.fault.FaultKind.{FaultKind}
 use Rattle.elm_base.specs.declared.fault.FaultKind.TheVariants as fault
-use Rattle.layout_lexer.specs.declared.byte_class.Class.{Class}
-use Rattle.layout_lexer.specs.declared.byte_class.Class.TheVariants.{Quote, Lower, Upper, Digit, Apostrophe, White, Symbol, Operator, Other}
-use Rattle.layout_lexer.specs.declared.byte_class.TheConstants.{WHITE, SYMBOLS, OPERATORS}
-use Rattle.layout_lexer.specs.Chars.{Text, class_of, is_among}
+use Rattle.layout_lexer.specs.declared.byte_class.Class.TheVariants.{Quote}
+use Rattle.layout_lexer.specs.Chars.{Text, class_of}
 use Rattle.layout_lexer.specs.Marks.{is_escape, opens}
-use Rattle.layout_lexer.specs.Spellings.{Begins, IsLongest, Each, IsPlain, IsEscape, IsQuoted, IsText, joined_units}
+use Rattle.layout_lexer.specs.Spellings.{Begins, IsLongest, Each, IsPlain, IsEscape, IsQuoted, IsText}
 use Rattle.layout_lexer.specs.Comments.{EndsLine, EndsTextLine}
-use Rattle.layout_lexer.specs.Tokens.{Stands, text as text_rule, Faulty, three_quotes, open_text, bad_escape}
-use Rattle.layout_lexer.specs.Pieces.{Read, quoted_text, quoted_from, text_of, open_or_bad, token, piece}
+use Rattle.layout_lexer.specs.Tokens.{text as text_rule, three_quotes, open_text, bad_escape}
+use Rattle.layout_lexer.specs.Pieces.{quoted_text, quoted_from, text_of, token, piece}
 use Rattle.layout_lexer.proofs.Longest.{front_taken}
 use Rattle.layout_lexer.proofs.Dispatch.{Meets, by_plain_class, opens_shape}
 
@@ -41,9 +38,9 @@ over_unit u more (inr x) at rest next =
     ∙ ap (λ n. quoted_from false n rest) (omega (arith, ap (λ t. length (t ++ more)) x.split))
 
 over_units : (units : List Text) → Each (λ u. IsPlain u ⊎ IsEscape u) units → (at : ℕ) (rest : Text)
-    → quoted_from false at (joined_units units ++ rest) ≡ quoted_from false (at + length (joined_units units)) rest
+    → quoted_from false at (concat units ++ rest) ≡ quoted_from false (at + length (concat units)) rest
 over_units [] each at rest = ap (λ n. quoted_from false n rest) (omega arith)
-over_units (u ∷ us) each at rest = over_unit u (joined_units us) each.0 at rest (λ n. over_units us each.1 n rest)
+over_units (u ∷ us) each at rest = over_unit u (concat us) each.0 at rest (λ n. over_units us each.1 n rest)
 
 over_quoted : (inside rest : Text) → IsQuoted inside → (at : ℕ) → quoted_from false at (inside ++ rest) ≡ quoted_from false (at + length inside) rest
 over_quoted inside rest q at =
@@ -121,6 +118,7 @@ line_end at (b ∷ bs) (inr e) = ap (quoted_from false at) e.1 ∙ go e.0 e.2
   where
     no_escape : is_escape 10 ≡ false
     no_escape = refl
+
     go : (more : Text) → EndsLine more → quoted_from false at (92 ∷ more) ≡ Err fault.OpenString
     go [] f = refl
     go (c ∷ cs) f = ap (λ x. quoted_from false at (92 ∷ x ∷ cs)) f
@@ -168,6 +166,7 @@ text_meets_at joined t plain q = subst (Meets joined (34 ∷ t)) (sym (text_is t
   where
     read : quoted_from false 1 t ≡ quoted_from false (1 + length q.inside) q.rest
     read = ap (quoted_from false 1) q.split ∙ over_quoted q.inside q.rest q.quoted 1
+
     go : Ending q.rest → Meets joined (34 ∷ t) (text_of (quoted_from false (1 + length q.inside) q.rest))
     go (at_quote more e) =
         let whole : t ≡ q.inside ++ 34 ∷ more = q.split ∙ ap (λ x. q.inside ++ x) e in
@@ -197,7 +196,7 @@ text_meets joined t = go (opens 34 34 t) refl
 
 -- ---- what is read where the definition has a text
 
-quote_class : class_of 34 ≡ Quote
+pub quote_class : class_of 34 ≡ Quote
 unfolding class_of
 quote_class = refl
 
@@ -214,13 +213,13 @@ text_read joined text s plain l =
 pub three_quotes_read : (joined : Bool) (text rest : Text) → text ≡ 34 ∷ 34 ∷ 34 ∷ rest → piece joined text ≡ Err fault.Excluded
 three_quotes_read joined text rest e = ap (piece joined) e ∙ read_as_text joined (34 ∷ 34 ∷ rest) ∙ three_is (34 ∷ 34 ∷ rest) refl
 
-no_quote_first : (units : List Text) (rest : Text) → Each (λ u. IsPlain u ⊎ IsEscape u) units → eqb (slice_index rest 0) 34 ≡ false → eqb (slice_index (joined_units units ++ rest) 0) 34 ≡ false
+no_quote_first : (units : List Text) (rest : Text) → Each (λ u. IsPlain u ⊎ IsEscape u) units → eqb (slice_index rest 0) 34 ≡ false → eqb (slice_index (concat units ++ rest) 0) 34 ≡ false
 no_quote_first [] rest each h = h
 no_quote_first (u ∷ us) rest each h = go u each.0
   where
-    go : (u : Text) → IsPlain u ⊎ IsEscape u → eqb (slice_index ((u ++ joined_units us) ++ rest) 0) 34 ≡ false
-    go u (inl p) = ap (λ t. eqb (slice_index ((t ++ joined_units us) ++ rest) 0) 34) p.split ∙ ne_eqb p.byte 34 p.no_quote
-    go u (inr x) = ap (λ t. eqb (slice_index ((t ++ joined_units us) ++ rest) 0) 34) x.split
+    go : (u : Text) → IsPlain u ⊎ IsEscape u → eqb (slice_index ((u ++ concat us) ++ rest) 0) 34 ≡ false
+    go u (inl p) = ap (λ t. eqb (slice_index ((t ++ concat us) ++ rest) 0) 34) p.split ∙ ne_eqb p.byte 34 p.no_quote
+    go u (inr x) = ap (λ t. eqb (slice_index ((t ++ concat us) ++ rest) 0) 34) x.split
 
 inside_read : (joined : Bool) (text inside rest : Text) → text ≡ 34 ∷ (inside ++ rest) → IsQuoted inside → eqb (slice_index rest 0) 34 ≡ false
     → piece joined text ≡ text_of (quoted_from false (1 + length inside) rest)

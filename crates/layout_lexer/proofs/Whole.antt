@@ -1,27 +1,21 @@
 -- The plain function gives what stands at the front of a text, or what is wrong with it, and nothing else does.
-use Rattle.std.proofs.Common.{◌≡◌, ◌≢◌, ℕ, zero, suc, ◌+◌, ◌<◌, ◌≤◌, Bool, true, false, cond, ◌||◌, ◌⊎◌, List, [], ◌∷◌, ◌++◌, length, take, drop, Option, Some, None, Ok, Err, refl, sym, ap, ◌∙◌, subst, inl, inr, arith, eqb, append_assoc, length-append}
+use Rattle.std.proofs.Common.{◌≡◌, ℕ, ◌<◌, Bool, true, false, cond, List, [], ◌∷◌, length, Ok, Err, refl, sym, ap, ◌∙◌, subst, inl, inr, arith, eqb, length-append}
 use Rattle.std.specs.Prelude.{slice_index}
-use Rattle.std.specs.List.{list_all}
 use Rattle.std.specs.Char.{is_ascii_lowercase, is_ascii_uppercase, is_ascii_digit}
 use Rattle.std.proofs.lemmas.Bool.{eqb-true}
-use Rattle.elm_base.specs.declared.token.TokenKind.{TokenKind}
-use Rattle.elm_base.specs.declared.token.TokenKind.TheVariants as kind
 use Rattle.elm_base.specs.declared.fault.FaultKind.{FaultKind}
-use Rattle.elm_base.specs.declared.fault.FaultKind.TheVariants as fault
 use Rattle.layout_lexer.specs.declared.byte_class.Class.{Class}
 use Rattle.layout_lexer.specs.declared.byte_class.Class.TheVariants.{White, Lower, Upper, Digit, Quote, Apostrophe, Symbol, Operator, Other}
-use Rattle.layout_lexer.specs.declared.byte_class.TheConstants.{WHITE, SYMBOLS, OPERATORS}
-use Rattle.layout_lexer.specs.declared.piece.Piece.{Piece}
-use Rattle.layout_lexer.specs.Chars.{Text, class_of, is_in, is_among, is_letter}
+use Rattle.layout_lexer.specs.Chars.{whites, symbols, operators, Text, class_of, is_in, is_among}
 use Rattle.layout_lexer.specs.Marks.{opens}
-use Rattle.layout_lexer.specs.Spellings.{Begins, IsLongest, IsQualified, IsSimple, IsName, IsRun, IsField, IsOperator, IsText, IsChar, dotted}
+use Rattle.layout_lexer.specs.Spellings.{IsQualified, IsName, dotted}
 use Rattle.layout_lexer.specs.Cuts.{Part}
-use Rattle.layout_lexer.specs.Tokens.{blank_part, token_part, Stands, white, line_comment, comment, word, lower, upper, int, text as text_rule, char, field, operator as operator_rule, symbol, Faulty, open_comment, long_name, long_field, long_operator, other_number, wide_number, three_quotes, open_text, bad_escape, bad_char, no_token}
-use Rattle.layout_lexer.specs.Pieces.{Read, piece, by_class, name, number, quoted_text, character, operator, blank, token}
+use Rattle.layout_lexer.specs.Tokens.{Stands, white, line_comment, comment, word, lower, upper, int, text as text_rule, char, field, operator as operator_rule, symbol, Faulty, open_comment, long_name, long_field, long_operator, other_number, wide_number, three_quotes, open_text, bad_escape, bad_char, no_token}
+use Rattle.layout_lexer.specs.Pieces.{piece, by_class, quoted_text, character}
 use Rattle.layout_lexer.specs.Scan.{piece_of}
 use Rattle.layout_lexer.proofs.Classes.{is_in_its, lower_is_letter, upper_is_letter}
 use Rattle.layout_lexer.proofs.Longest.{front_within, run_first}
-use Rattle.layout_lexer.proofs.Dispatch.{Meets, by_its_class, by_plain_class, no_comment, no_line_comment, opens_shape}
+use Rattle.layout_lexer.proofs.Dispatch.{Meets, by_its_class, by_plain_class, no_line_comment, opens_shape}
 use Rattle.layout_lexer.proofs.Names.{reads_name}
 use Rattle.layout_lexer.proofs.NameReads.{name_meets, name_read, word_read, long_name_read}
 use Rattle.layout_lexer.proofs.NumberReads.{number_meets, int_read, other_number_read, wide_number_read}
@@ -34,7 +28,7 @@ use Rattle.layout_lexer.proofs.CommentReads.{comment_meets, comment_read, open_c
 
 quote_byte : (b : ℕ) → class_of b ≡ Quote → b ≡ 34
 unfolding class_of
-quote_byte b e = go (is_ascii_lowercase b) (is_ascii_uppercase b) (is_ascii_digit b) (eqb b 34) refl (eqb b 39) (is_among WHITE.now b) (is_among SYMBOLS.now b) (is_among OPERATORS.now b) e
+quote_byte b e = go (is_ascii_lowercase b) (is_ascii_uppercase b) (is_ascii_digit b) (eqb b 34) refl (eqb b 39) (is_among whites b) (is_among symbols b) (is_among operators b) e
   where
     go : (l u d q : Bool) → eqb b 34 ≡ q → (a w s o : Bool)
         → cond l Lower (cond u Upper (cond d Digit (cond q Quote (cond a Apostrophe (cond w White (cond s Symbol (cond o Operator Other))))))) ≡ Quote → b ≡ 34
@@ -50,7 +44,7 @@ quote_byte b e = go (is_ascii_lowercase b) (is_ascii_uppercase b) (is_ascii_digi
 
 apostrophe_byte : (b : ℕ) → class_of b ≡ Apostrophe → b ≡ 39
 unfolding class_of
-apostrophe_byte b e = go (is_ascii_lowercase b) (is_ascii_uppercase b) (is_ascii_digit b) (eqb b 34) (eqb b 39) refl (is_among WHITE.now b) (is_among SYMBOLS.now b) (is_among OPERATORS.now b) e
+apostrophe_byte b e = go (is_ascii_lowercase b) (is_ascii_uppercase b) (is_ascii_digit b) (eqb b 34) (eqb b 39) refl (is_among whites b) (is_among symbols b) (is_among operators b) e
   where
     go : (l u d q a : Bool) → eqb b 39 ≡ a → (w s o : Bool)
         → cond l Lower (cond u Upper (cond d Digit (cond q Quote (cond a Apostrophe (cond w White (cond s Symbol (cond o Operator Other))))))) ≡ Apostrophe → b ≡ 39

@@ -1,5 +1,5 @@
 -- Kinds of bytes. Letters and digits are ASCII.
-use Rattle.std.specs.Prelude.{ℕ, ◌+◌, Bool, not, ◌&&◌, ◌||◌, if◌then◌else◌, ◌==◌, nat_le, nat_lt, List, drop}
+use Rattle.std.specs.Prelude.{ℕ, [], ◌∷◌, codes, ◌+◌, Bool, not, ◌&&◌, ◌||◌, if◌then◌else◌, ◌==◌, nat_le, nat_lt, List, drop}
 use Rattle.std.specs.Char.{is_ascii_lowercase, is_ascii_uppercase, is_ascii_digit}
 use Rattle.std.specs.List.{prefix_len, list_any}
 use denote.Enum.Bare.{sameb}
@@ -8,13 +8,23 @@ use Rattle.layout_lexer.specs.declared.byte_class.Class.{Class}
 use Rattle.layout_lexer.specs.declared.byte_class.Class.TheVariants.{White, Lower, Upper, Digit, Quote, Apostrophe, Symbol, Operator, Other}
 use Rattle.layout_lexer.specs.declared.byte_class.Run.{Run}
 use Rattle.layout_lexer.specs.declared.byte_class.Run.TheVariants as run
-use Rattle.layout_lexer.specs.declared.byte_class.TheConstants.{WHITE, SYMBOLS, OPERATORS}
 
 abbrev pub Text : Type 0
 Text = List ℕ
 
 abbrev pub is_among : Text → ℕ → Bool
 is_among bytes b = list_any (λ c. c == b) bytes
+
+-- space, newline, carriage return
+abbrev pub whites : Text
+whites = 32 ∷ 10 ∷ 13 ∷ []
+
+-- ()[]{},\_ and the backtick
+abbrev pub symbols : Text
+symbols = 40 ∷ 41 ∷ 91 ∷ 93 ∷ 123 ∷ 125 ∷ 44 ∷ 92 ∷ 95 ∷ 96 ∷ []
+
+abbrev pub operators : Text
+operators = codes "+-*/%<>=!&|^~@#$:."
 
 -- the kind of token that a byte begins; each byte is of one class
 unfoldable pub class_of : ℕ → Class
@@ -24,9 +34,9 @@ class_of b =
     else (if is_ascii_digit b then Digit
     else (if b == 34 then Quote
     else (if b == 39 then Apostrophe
-    else (if is_among WHITE.now b then White
-    else (if is_among SYMBOLS.now b then Symbol
-    else (if is_among OPERATORS.now b then Operator
+    else (if is_among whites b then White
+    else (if is_among symbols b then Symbol
+    else (if is_among operators b then Operator
     else Other)))))))
 
 unfoldable pub is_in : Class → ℕ → Bool

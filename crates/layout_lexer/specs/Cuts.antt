@@ -1,17 +1,13 @@
 -- A text cut into tokens, white space and comments; the first fault of a text.
-use Rattle.std.specs.Prelude.{◌≡◌, ℕ, ◌<◌, ⊤, Bool, true, false, ◌⊎◌, ◌==◌, ◌||◌, List, [], ◌∷◌, ◌++◌, take, length, map, Option, Some, None, Result, Ok, Err}
+use Rattle.std.specs.Prelude.{◌≡◌, ℕ, Bool, true, false, ◌⊎◌, ◌||◌, List, [], ◌∷◌, ◌++◌, take, Option, Some, None}
 use Rattle.std.specs.List.{flat_map}
 use Rattle.std.specs.Str.{IsUtf8, IsValidUpTo}
-use Rattle.elm_base.specs.declared.memory.Halt.{Halt}
-use Rattle.elm_base.specs.declared.memory.Halt.TheVariants as halt
 use Rattle.elm_base.specs.declared.token.At.{At}
-use Rattle.elm_base.specs.declared.token.Token.{Token}
 use Rattle.elm_base.specs.declared.token.TokenKind.{TokenKind}
 use Rattle.elm_base.specs.declared.token.TokenKind.TheVariants as kind
 use Rattle.elm_base.specs.declared.fault.FaultKind.{FaultKind}
 use Rattle.elm_base.specs.declared.fault.FaultKind.TheVariants as fault
 use Rattle.layout_lexer.specs.declared.place.TextFault.{TextFault}
-use Rattle.layout_lexer.specs.declared.piece.Piece.{Piece}
 use Rattle.layout_lexer.specs.Chars.{Text, is_among}
 use Rattle.layout_lexer.specs.Places.{place_after}
 use Rattle.layout_lexer.specs.Lexemes.{Lexeme, fault_after}
@@ -21,17 +17,19 @@ pub record Part : Type 0 where
   pub kind : Option TokenKind
   pub text : Text
 
--- whether a `.` directly after this part reads a field of it
+-- whether a `.` directly after this token reads a field of it
 abbrev pub is_value : TokenKind → Text → Bool
 is_value kind.Lower s = true
 is_value kind.Access s = true
 is_value kind.Symbol s = is_among s 41 || is_among s 125
 is_value k s = false
 
+-- the same of a part
 abbrev pub joins : Option TokenKind → Text → Bool
 joins None s = false
 joins (Some k) s = is_value k s
 
+-- all that the parts spell
 abbrev pub texts : List Part → Text
 texts parts = flat_map (λ p. p.text) parts
 
@@ -45,6 +43,7 @@ abbrev pub Cut : (Bool → Text → Part → Type 0) → Bool → Text → List 
 Cut Stands joined text [] after = text ≡ after
 Cut Stands joined text (p ∷ ps) after = (rest : Text) × (text ≡ p.text ++ rest) × Stands joined text p × Cut Stands (joins p.kind p.text) rest ps after
 
+-- a token at this place, where the part is one, before more
 abbrev pub listed : Option TokenKind → Text → At → List Lexeme → List Lexeme
 listed None s at more = more
 listed (Some k) s at more = record { kind = k; text = s; line = at.line; column = at.column } ∷ more

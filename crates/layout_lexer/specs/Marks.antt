@@ -1,10 +1,8 @@
 -- Words, symbols and marks of the language.
-use Rattle.std.specs.Prelude.{ℕ, Bool, ◌&&◌, ◌||◌, ◌==◌, List, map, slice_index}
+use Rattle.std.specs.Prelude.{ℕ, Bool, ◌&&◌, ◌||◌, ◌==◌, List, [], ◌∷◌, codes, slice_index}
 use Rattle.std.specs.List.{list_any}
 use Rattle.std.specs.Cmp.Lexicographic.{pointwise}
 use Rattle.layout_lexer.specs.declared.byte_class.Class.TheVariants as class
-use Rattle.layout_lexer.specs.declared.name.TheConstants.{WORDS, SYMBOL_RUNS}
-use Rattle.layout_lexer.specs.declared.literal.TheConstants.{ESCAPES}
 use Rattle.layout_lexer.specs.Chars.{Text, is_in, is_letter, is_among}
 
 -- the text begins with these two bytes
@@ -17,14 +15,28 @@ is_same = pointwise (λ a b. a == b)
 abbrev pub is_listed : List Text → Text → Bool
 is_listed list word = list_any (λ w. is_same w word) list
 
+-- the most bytes of a name or an operator
+abbrev pub max_name : ℕ
+max_name = 255
+
+-- the greatest integer literal
+abbrev pub max_int : ℕ
+max_int = 9223372036854775807
+
 abbrev pub words : List Text
-words = map (λ w. w.now) WORDS
+words =
+    codes "module" ∷ codes "where" ∷ codes "import" ∷ codes "as" ∷ codes "exposing" ∷ codes "type" ∷ codes "alias" ∷ codes "port" ∷ codes "if"
+    ∷ codes "then" ∷ codes "else" ∷ codes "let" ∷ codes "in" ∷ codes "case" ∷ codes "of" ∷ codes "infixl" ∷ codes "infixr" ∷ codes "infix" ∷ []
 
 abbrev pub symbol_runs : List Text
-symbol_runs = map (λ w. w.now) SYMBOL_RUNS
+symbol_runs = codes "=" ∷ codes "->" ∷ codes "|" ∷ codes ":" ∷ codes "<-" ∷ codes ".." ∷ []
+
+-- n, t, r, both quotes and the backslash
+abbrev pub escapes : Text
+escapes = 110 ∷ 116 ∷ 114 ∷ 34 ∷ 39 ∷ 92 ∷ []
 
 abbrev pub is_escape : ℕ → Bool
-is_escape b = is_among ESCAPES.now b
+is_escape b = is_among escapes b
 
 -- what stands behind digits makes them a form that is left out
 abbrev pub goes_on : Text → Bool

@@ -1,5 +1,5 @@
 -- The plain function that reads the piece at the front of a text.
-use Rattle.std.specs.Prelude.{ℕ, ◌+◌, ◌-◌, ◌*◌, Bool, true, false, not, ◌&&◌, ◌||◌, if◌then◌else◌, ◌==◌, nat_lt, List, [], ◌∷◌, length, take, drop, map, slice_index, Option, Some, None, Result, Ok, Err}
+use Rattle.std.specs.Prelude.{ℕ, ◌+◌, ◌-◌, ◌*◌, Bool, true, false, ◌&&◌, ◌||◌, if◌then◌else◌, ◌==◌, nat_lt, [], ◌∷◌, length, take, drop, slice_index, Option, Some, None, Result, Ok, Err}
 use Rattle.elm_base.specs.declared.token.TokenKind.{TokenKind}
 use Rattle.elm_base.specs.declared.token.TokenKind.TheVariants as kind
 use Rattle.elm_base.specs.declared.fault.FaultKind.{FaultKind}
@@ -8,10 +8,8 @@ use Rattle.layout_lexer.specs.declared.byte_class.Class.{Class}
 use Rattle.layout_lexer.specs.declared.byte_class.Class.TheVariants as class
 use Rattle.layout_lexer.specs.declared.byte_class.Run.TheVariants as over
 use Rattle.layout_lexer.specs.declared.piece.Piece.{Piece}
-use Rattle.layout_lexer.specs.declared.name.TheConstants.{MAX_NAME}
-use Rattle.layout_lexer.specs.declared.literal.TheConstants.{MAX_INT}
 use Rattle.layout_lexer.specs.Chars.{Text, class_of, is_in, is_letter, is_name_byte, past}
-use Rattle.layout_lexer.specs.Marks.{opens, is_listed, words, symbol_runs, goes_on, is_escape}
+use Rattle.layout_lexer.specs.Marks.{max_name, max_int, opens, is_listed, words, symbol_runs, goes_on, is_escape}
 
 abbrev pub Read : Type 0
 Read = Result Piece FaultKind
@@ -63,18 +61,18 @@ name_end text = name_from (is_in class.Upper (slice_index text 0)) 0 text
 unfoldable pub name : Text → Read
 name text =
     let n = name_end text in
-    if nat_lt MAX_NAME n.1 then Err fault.TooLarge
+    if nat_lt max_name n.1 then Err fault.TooLarge
     else Ok (token (if is_listed words (take n.1 text) then kind.Word else n.0) n.1)
 
 abbrev pub label : Bool → Text → Read
 label joined text =
     let end = past over.Name text 1 in
-    if nat_lt (MAX_NAME + 1) end then Err fault.TooLarge else Ok (token (if joined then kind.Access else kind.FieldFunction) end)
+    if nat_lt (max_name + 1) end then Err fault.TooLarge else Ok (token (if joined then kind.Access else kind.FieldFunction) end)
 
 abbrev pub run : Text → Read
 run text =
     let end = past over.Operators text 0 in
-    if nat_lt MAX_NAME end then Err fault.TooLarge
+    if nat_lt max_name end then Err fault.TooLarge
     else Ok (token (if is_listed symbol_runs (take end text) then kind.Symbol else kind.Operator) end)
 
 unfoldable pub operator : Bool → Text → Read
@@ -84,7 +82,7 @@ operator joined text = if slice_index text 0 == 46 && nat_lt 1 (length text) && 
 
 abbrev pub fits_from : ℕ → Text → Bool
 fits_from value [] = true
-fits_from value (d ∷ ds) = let more = value * 10 + (d - 48) in if nat_lt MAX_INT more then false else fits_from more ds
+fits_from value (d ∷ ds) = let more = value * 10 + (d - 48) in if nat_lt max_int more then false else fits_from more ds
 
 unfoldable pub number : Text → Read
 number text =

@@ -1,5 +1,5 @@
 -- Lines and columns: both count from 1, columns in chars. A count stands still at the greatest u32.
-use Rattle.std.specs.Prelude.{ℕ, ◌+◌, ◌-◌, ◌^◌, min, Bool, if◌then◌else◌, ◌==◌, List, [], ◌∷◌, reverse}
+use Rattle.std.specs.Prelude.{ℕ, ◌+◌, ◌-◌, ◌^◌, min, if◌then◌else◌, ◌==◌, [], ◌∷◌, reverse}
 use Rattle.std.specs.List.{count_by}
 use Rattle.elm_base.specs.declared.token.At.{At}
 use Rattle.layout_lexer.specs.Chars.{Text, is_continuation}

@@ -1,5 +1,5 @@
 -- A text cut by the plain function.
-use Rattle.std.specs.Prelude.{◌≡◌, ℕ, ◌<◌, Bool, List, length, Ok, Err}
+use Rattle.std.specs.Prelude.{◌≡◌, ◌<◌, Bool, List, length, Ok, Err}
 use Rattle.elm_base.specs.declared.fault.FaultKind.{FaultKind}
 use Rattle.layout_lexer.specs.declared.piece.Piece.{Piece}
 use Rattle.layout_lexer.specs.declared.place.TextFault.{TextFault}

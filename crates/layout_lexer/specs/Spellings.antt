@@ -1,19 +1,10 @@
--- The spellings of each kind of token, and which of them stands at a place.
-use Rattle.std.specs.Prelude.{◌≡◌, ◌≢◌, ℕ, zero, suc, ◌+◌, ◌-◌, ◌*◌, ◌<◌, ◌≤◌, ⊤, Bool, true, false, not, ◌==◌, ◌⊎◌, if◌then◌else◌, List, [], ◌∷◌, ◌++◌, length, drop, Option, Some, None}
-use Rattle.std.specs.List.{list_all}
-use Rattle.elm_base.specs.declared.token.TokenKind.{TokenKind}
-use Rattle.elm_base.specs.declared.token.TokenKind.TheVariants as kind
-use Rattle.elm_base.specs.declared.fault.FaultKind.{FaultKind}
-use Rattle.elm_base.specs.declared.fault.FaultKind.TheVariants as fault
+-- The spellings of each kind of token.
+use Rattle.std.specs.Prelude.{◌≡◌, ◌≢◌, ℕ, ◌+◌, ◌-◌, ◌*◌, ◌<◌, ◌≤◌, ⊤, true, ◌⊎◌, List, [], ◌∷◌, ◌++◌, length}
+use Rattle.std.specs.List.{list_all, concat}
 use Rattle.layout_lexer.specs.declared.byte_class.Class.{Class}
 use Rattle.layout_lexer.specs.declared.byte_class.Class.TheVariants as class
-use Rattle.layout_lexer.specs.declared.name.TheConstants.{MAX_NAME}
-use Rattle.layout_lexer.specs.declared.literal.TheConstants.{MAX_INT}
-use Rattle.layout_lexer.specs.Chars.{Text, class_of, is_in, is_name_byte, is_continuation}
-use Rattle.layout_lexer.specs.Marks.{opens, is_listed, words, symbol_runs, goes_on, is_escape}
-use Rattle.layout_lexer.specs.Lexemes.{Lexeme}
-use Rattle.layout_lexer.specs.Cuts.{Part, TokensBy, FirstFaultBy}
-use Rattle.layout_lexer.specs.declared.place.TextFault.{TextFault}
+use Rattle.layout_lexer.specs.Chars.{Text, is_in, is_name_byte, is_continuation}
+use Rattle.layout_lexer.specs.Marks.{is_escape}
 
 -- the text begins with s
 abbrev pub Begins : Text → Text → Type 0
@@ -25,6 +16,7 @@ pub record IsLongest (Spells : Text → Type 0) (text s : Text) : Type 0 where
   pub front : Begins s text
   pub longest : (t : Text) → Begins t text → Spells t → length t ≤ length s
 
+-- P holds of each of the texts
 abbrev pub Each : (Text → Type 0) → List Text → Type 0
 Each P [] = ⊤
 Each P (x ∷ xs) = P x × Each P xs
@@ -39,6 +31,7 @@ pub record IsSimple (c : Class) (s : Text) : Type 0 where
   pub begins : is_in c first ≡ true
   pub goes : list_all is_name_byte more ≡ true
 
+-- the texts, and then s, with a point between each two
 abbrev pub dotted : List Text → Text → Text
 dotted [] s = s
 dotted (u ∷ us) s = u ++ 46 ∷ dotted us s
@@ -51,21 +44,31 @@ pub record IsQualified (c : Class) (s : Text) : Type 0 where
   pub simple : IsSimple c last
   pub split : s ≡ dotted modules last
 
+-- a name by its last part: a lower-case one or an upper-case one
 abbrev pub IsName : Text → Type 0
 IsName s = IsQualified class.Lower s ⊎ IsQualified class.Upper s
 
 -- ---- a point with a label, and runs of operator bytes
 
+-- a point and a lower-case name
 pub record IsField (s : Text) : Type 0 where
   pub label : Text
   pub split : s ≡ 46 ∷ label
   pub simple : IsSimple class.Lower label
 
+-- one byte or more, all of the class
 abbrev pub IsRun : Class → Text → Type 0
 IsRun c s = (0 < length s) × (list_all (is_in c) s ≡ true)
 
-abbrev pub IsOperator : Text → Type 0
-IsOperator s = IsRun class.Operator s ⊎ IsField s
+-- what may begin with a byte of an operator: the longer of the two stands
+abbrev pub IsFieldOrRun : Text → Type 0
+IsFieldOrRun s = IsRun class.Operator s ⊎ IsField s
+
+-- one byte that is a symbol
+pub record IsSymbol (s : Text) : Type 0 where
+  pub byte : ℕ
+  pub split : s ≡ byte ∷ []
+  pub symbol : is_in class.Symbol byte ≡ true
 
 -- ---- numbers
 
@@ -85,7 +88,7 @@ pub record IsEscape (s : Text) : Type 0 where
   pub split : s ≡ 92 ∷ byte ∷ []
   pub known : is_escape byte ≡ true
 
--- a byte of a text other than `"`, the backslash and the newline
+-- one byte other than `"`, the backslash and the newline
 pub record IsPlain (s : Text) : Type 0 where
   pub byte : ℕ
   pub split : s ≡ byte ∷ []
@@ -93,16 +96,13 @@ pub record IsPlain (s : Text) : Type 0 where
   pub no_backslash : byte ≢ 92
   pub no_newline : byte ≢ 10
 
-abbrev pub joined_units : List Text → Text
-joined_units [] = []
-joined_units (u ∷ us) = u ++ joined_units us
-
 -- what may stand between double quotes, on one line
 pub record IsQuoted (s : Text) : Type 0 where
   pub units : List Text
   pub each : Each (λ u. IsPlain u ⊎ IsEscape u) units
-  pub split : s ≡ joined_units units
+  pub split : s ≡ concat units
 
+-- a text in double quotes
 pub record IsText (s : Text) : Type 0 where
   pub inside : Text
   pub split : s ≡ 34 ∷ (inside ++ 34 ∷ [])
@@ -118,6 +118,7 @@ pub record IsOneChar (s : Text) : Type 0 where
   pub no_newline : byte ≢ 10
   pub goes : list_all is_continuation more ≡ true
 
+-- one char or one escape in single quotes
 pub record IsChar (s : Text) : Type 0 where
   pub inside : Text
   pub split : s ≡ 39 ∷ (inside ++ 39 ∷ [])

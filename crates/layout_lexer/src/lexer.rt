@@ -1,13 +1,15 @@
 //! A text from its first token to its last.
 
-ghost use Rattle.std.specs.Prelude.{◌≡◌, ◌⊎◌, List, map, IfOk, IfErr, MatchOption, MatchResult};
+ghost use Rattle.std.specs.Prelude.{◌≡◌, ◌≤◌, ◌⊎◌, Bool, List, length, map, IfOk, IfErr, MatchOption, MatchResult};
 ghost use Rattle.std.specs.Str.{IsUtf8};
 ghost use Rattle.elm_base.specs.declared.memory.Halt.TheVariants as halts;
+ghost use Rattle.elm_base.specs.declared.token.TokenKind.{TokenKind};
 ghost use Rattle.layout_lexer.specs.declared.place.TextFault.{TextFault};
 ghost use Rattle.layout_lexer.specs.Chars.{Text};
 ghost use Rattle.layout_lexer.specs.Lexemes.{Lexeme, lexeme, fault_after as fault_after_of};
+ghost use Rattle.layout_lexer.specs.Spellings.{Begins};
 ghost use Rattle.layout_lexer.specs.Cuts.{joins as joins_of, is_value as is_value_of, HasNoTab, HasBadByte, HasTab};
-ghost use Rattle.layout_lexer.specs.Tokens.{Tokens, FirstFault, AreSlices, OnBecause};
+ghost use Rattle.layout_lexer.specs.Tokens.{Stands, token_part, IsSpelling, Tokens, FirstFault, AreSlices, OnBecause};
 ghost use Rattle.layout_lexer.specs.Scan.{Scans, Stops};
 
 use crate::piece::next_piece;
@@ -33,12 +35,14 @@ pub fn tokens(alloc: Global, text: &[u8]) -> Result<Vec<Token<'_>>, Halt<TextFau
     scan(alloc, text)
 }
 
-/// Each text has one list of tokens or one first fault, and not both.
+/// Each text has one list of tokens or one first fault, and not both. A token is the longest spelling, of
+/// whatever kind, with which the text goes on at its place.
 pub fn one_reading()
     ensures some { (text : Text) → ((list : List Lexeme) × Tokens text list) ⊎ ((fault : TextFault) × FirstFault text fault) }
     ensures one_list { (text : Text) (list other : List Lexeme) → Tokens text list → Tokens text other → list ≡ other }
     ensures one_fault { (text : Text) (fault other : TextFault) → FirstFault text fault → FirstFault text other → fault ≡ other }
     ensures not_both { (text : Text) (list : List Lexeme) (fault : TextFault) → Tokens text list → FirstFault text fault → ⊥ }
+    ensures longest { (joined : Bool) (text : Text) (kind : TokenKind) (s other : Text) → Stands joined text (token_part kind s) → Begins other text → IsSpelling other → length other ≤ length s }
 {}
 
 fn scan(alloc: Global, text: &[u8]) -> Result<Vec<Token<'_>>, Halt<TextFault>>

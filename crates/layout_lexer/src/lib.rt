@@ -9,10 +9,8 @@ mod name;
 mod piece;
 mod place;
 
-
 pub use lexer::{one_reading, tokens};
 pub use place::TextFault;
-
 
 #[cfg(test)]
 mod tests;

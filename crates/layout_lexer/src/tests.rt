@@ -1,8 +1,7 @@
-use crate::{TextFault, tokens};
+use crate::{TextFault, one_reading, tokens};
 use elm_base::{FaultKind, Halt, Token, TokenKind};
 use std::alloc::Global;
 use std::process::Abort;
-
 use std::test::Fail;
 
 /// A token as a row gives it: kind, spelling, line, column.
@@ -32,9 +31,7 @@ fn refuses(rt: &impl Abort, alloc: Global, text: &[u8], line: u32, kind: FaultKi
 
 #[test]
 fn tokens_of_each_kind(rt: HostRuntime) -> Result<(), Fail> {
-    use TokenKind::{
-        Access, Char, FieldFunction, Int, Lower, Operator, Symbol, Text, Upper, Word,
-    };
+    use TokenKind::{Access, Char, FieldFunction, Int, Lower, Operator, Symbol, Text, Upper, Word};
     let rows: [(&str, &[Row]); 27] = [
         ("", &[]),
         ("f.x", &[(Lower, "f", 1, 1), (Access, ".x", 1, 2)]),
@@ -74,10 +71,7 @@ fn tokens_of_each_kind(rt: HostRuntime) -> Result<(), Fail> {
             "'\\n' '\\''",
             &[(Char, "'\\n'", 1, 1), (Char, "'\\''", 1, 6)],
         ),
-        (
-            "9223372036854775807",
-            &[(Int, "9223372036854775807", 1, 1)],
-        ),
+        ("9223372036854775807", &[(Int, "9223372036854775807", 1, 1)]),
         ("'é' x", &[(Char, "'é'", 1, 1), (Lower, "x", 1, 5)]),
         (
             "\"é𝄞\" x\n  y",
@@ -137,9 +131,7 @@ fn tokens_of_each_kind(rt: HostRuntime) -> Result<(), Fail> {
 
 #[test]
 fn faults_of_each_kind(rt: HostRuntime) -> Result<(), Fail> {
-    use FaultKind::{
-        BadChar, Excluded, IntTooWide, NotUtf8, OpenComment, OpenString, Tab,
-    };
+    use FaultKind::{BadChar, Excluded, IntTooWide, NotUtf8, OpenComment, OpenString, Tab};
     let rows: [(&[u8], u32, FaultKind); 26] = [
         (b"main = show 1.5", 1, Excluded),
         (b"main = show 9223372036854775808", 1, IntTooWide),
@@ -168,6 +160,7 @@ fn faults_of_each_kind(rt: HostRuntime) -> Result<(), Fail> {
         (b"?\n\xFF\t", 2, NotUtf8),
         (b"?\n\t", 2, Tab),
     ];
+    one_reading();
     for row in &rows {
         refuses(&rt, rt.alloc(), row.0, row.1, row.2);
     }
@@ -184,7 +177,13 @@ fn names_and_operators_up_to_their_limit(rt: HostRuntime) -> Result<(), Fail> {
                 assert_eq!(&rt; len, 255);
             }
             Err(Halt::Because(fault)) => {
-                assert!(&rt; fault == TextFault { line: 1, kind: FaultKind::TooLarge });
+                assert!(&rt;
+                    fault
+                        == TextFault {
+                            line: 1,
+                            kind: FaultKind::TooLarge
+                        }
+                );
                 assert_eq!(&rt; len, 256);
             }
             Err(_) => assert!(&rt; false),

@@ -41,7 +41,7 @@ fault_place fault = (codes "refused ProjectRefused " ++ fault.module) ++ (codes 
 -- the line that says which fault a project has
 abbrev pub fault_line : ProjectFault → List ℕ
 fault_line fault = line (
-  fault_place fault ++ (codes " " ++ kind_text fault.kind) ++ (codes " " ++ name_or_dash fault.name))
+    fault_place fault ++ (codes " " ++ kind_text fault.kind) ++ (codes " " ++ name_or_dash fault.name))
 
 -- what is written of a refusal
 abbrev pub refusal_text : CommandRefusal → List ℕ

@@ -8,9 +8,11 @@ use std::marker::Brand;
 use std::sync::ledger::{Blank, Ledger};
 use std::test::Fail;
 
-const FIRST: &[u8] = b"import Graphics.Element exposing (..)\nport p : Signal Int\nmain = Signal.map show p\n";
+const FIRST: &[u8] =
+    b"import Graphics.Element exposing (..)\nport p : Signal Int\nmain = Signal.map show p\n";
 
 // Which calls of the outside fail, by their numbers from 1.
+#[derive(Clone, Copy)]
 struct Failing {
     reads: &'static [u64],
     writes: &'static [u64],
@@ -99,18 +101,30 @@ fn scripts_in_pieces(rt: HostRuntime) -> Result<(), Fail> {
         ("input p 5\r\n", "at 1 of 1\n| 5\n.\n"),
         ("input p 5\r", "refused Unsupported\n"),
         ("  input   p   5  \n", "at 1 of 1\n| 5\n.\n"),
-        ("input p 5\ninput p -7\n", "at 1 of 1\n| 5\n.\nat 2 of 2\n| -7\n.\n"),
+        (
+            "input p 5\ninput p -7\n",
+            "at 1 of 1\n| 5\n.\nat 2 of 2\n| -7\n.\n",
+        ),
         ("input p 007\n", "at 1 of 1\n| 7\n.\n"),
         ("input p -0\n", "at 1 of 1\n| 0\n.\n"),
-        ("input p 9223372036854775807\n", "at 1 of 1\n| 9223372036854775807\n.\n"),
-        ("input p -9223372036854775808\n", "at 1 of 1\n| -9223372036854775808\n.\n"),
+        (
+            "input p 9223372036854775807\n",
+            "at 1 of 1\n| 9223372036854775807\n.\n",
+        ),
+        (
+            "input p -9223372036854775808\n",
+            "at 1 of 1\n| -9223372036854775808\n.\n",
+        ),
         ("input p 9223372036854775808\n", "refused BadValue p Int\n"),
         ("input p -9223372036854775809\n", "refused BadValue p Int\n"),
         ("input p +5\n", "refused BadValue p Int\n"),
         ("input p -\n", "refused BadValue p Int\n"),
         ("input p 5 6\n", "refused BadValue p Int\n"),
         ("input q x\n", "refused UnknownInput q\n"),
-        ("input q 5\ninput p 5\n", "refused UnknownInput q\nat 1 of 1\n| 5\n.\n"),
+        (
+            "input q 5\ninput p 5\n",
+            "refused UnknownInput q\nat 1 of 1\n| 5\n.\n",
+        ),
         ("\n", "refused Unsupported\n"),
         ("# words\n", "refused Unsupported\n"),
         ("input p\n", "refused Unsupported\n"),
@@ -125,7 +139,13 @@ fn scripts_in_pieces(rt: HostRuntime) -> Result<(), Fail> {
     ];
     for (script, answers) in rows {
         for size in [1, 3, 4096] {
-            let (status, written) = run_first(rt.alloc(), FIRST, script.as_bytes(), size, &NOTHING)?;
+            let (status, written) = run_first(
+                rt.alloc(),
+                FIRST,
+                script.as_bytes(),
+                size,
+                &NOTHING,
+            )?;
             let wanted = format!(in rt.alloc(); "{start}{answers}")?;
             assert_eq!(rt; written.as_slice(), wanted.as_bytes(), "{script}");
             assert_eq!(rt; status, Status::Done, "{script}");
@@ -164,27 +184,67 @@ fn long_lines_and_names(rt: HostRuntime) -> Result<(), Fail> {
 fn faults_of_projects(rt: HostRuntime) -> Result<(), Fail> {
     let rows = [
         ("", "Main 0 Unsupported -"),
-        ("import Graphics.Element exposing (..)\nport p : Signal Int\n", "Main 0 Unsupported -"),
-        ("import Graphics.Element exposing (..)\nport p : Signal Int\nmain = Signal.map show q\n", "Main 0 Unsupported -"),
-        ("import Graphics.Element exposing (..)\nport main : Signal Int\nmain = Signal.map show main\n", "Main 0 Unsupported -"),
-        ("import Graphics.Element exposing (..)\nport show : Signal Int\nmain = Signal.map show show\n", "Main 0 Unsupported -"),
-        ("import Graphics.Element exposing (..)\nport let : Signal Int\nmain = Signal.map show let\n", "Main 0 Unsupported -"),
-        ("import Graphics.Element exposing (..)\nport p' : Signal Int\nmain = Signal.map show p'\n", "Main 0 Unsupported -"),
-        ("import Graphics.Element exposing (..)\n port p : Signal Int\nmain = Signal.map show p\n", "Main 0 Unsupported -"),
-        ("import Graphics.Element exposing (..)\nport p : Signal\nInt\nmain = Signal.map show p\n", "Main 0 Unsupported -"),
-        ("import Graphics.Element exposing (..)\nport p : Signal Int\nmain = show 1.5\n", "Main 3 Excluded -"),
-        ("import Graphics.Element exposing (..)\nport p : Signal Int\nmain = show 9223372036854775808\n", "Main 3 IntTooWide -"),
-        ("import Graphics.Element exposing (..)\n\tport p : Signal Int\n", "Main 2 Tab -"),
+        (
+            "import Graphics.Element exposing (..)\nport p : Signal Int\n",
+            "Main 0 Unsupported -",
+        ),
+        (
+            "import Graphics.Element exposing (..)\nport p : Signal Int\nmain = Signal.map show q\n",
+            "Main 0 Unsupported -",
+        ),
+        (
+            "import Graphics.Element exposing (..)\nport main : Signal Int\nmain = Signal.map show main\n",
+            "Main 0 Unsupported -",
+        ),
+        (
+            "import Graphics.Element exposing (..)\nport show : Signal Int\nmain = Signal.map show show\n",
+            "Main 0 Unsupported -",
+        ),
+        (
+            "import Graphics.Element exposing (..)\nport let : Signal Int\nmain = Signal.map show let\n",
+            "Main 0 Unsupported -",
+        ),
+        (
+            "import Graphics.Element exposing (..)\nport p' : Signal Int\nmain = Signal.map show p'\n",
+            "Main 0 Unsupported -",
+        ),
+        (
+            "import Graphics.Element exposing (..)\n port p : Signal Int\nmain = Signal.map show p\n",
+            "Main 0 Unsupported -",
+        ),
+        (
+            "import Graphics.Element exposing (..)\nport p : Signal\nInt\nmain = Signal.map show p\n",
+            "Main 0 Unsupported -",
+        ),
+        (
+            "import Graphics.Element exposing (..)\nport p : Signal Int\nmain = show 1.5\n",
+            "Main 3 Excluded -",
+        ),
+        (
+            "import Graphics.Element exposing (..)\nport p : Signal Int\nmain = show 9223372036854775808\n",
+            "Main 3 IntTooWide -",
+        ),
+        (
+            "import Graphics.Element exposing (..)\n\tport p : Signal Int\n",
+            "Main 2 Tab -",
+        ),
         ("import {- x\n", "Main 1 OpenComment -"),
     ];
     for (main, fault) in rows {
-        let (status, written) = run_first(rt.alloc(), main.as_bytes(), b"input p 5\n", 4096, &NOTHING)?;
+        let (status, written) = run_first(
+            rt.alloc(),
+            main.as_bytes(),
+            b"input p 5\n",
+            4096,
+            &NOTHING,
+        )?;
         let wanted = format!(in rt.alloc(); "refused ProjectRefused {fault}\n")?;
         assert_eq!(rt; written.as_slice(), wanted.as_bytes(), "{main}");
         assert_eq!(rt; status, Status::ProjectRefused, "{main}");
     }
     // White space between the tokens is free, save that a declaration begins a line and nothing else does.
-    let spread = "-- one port\nimport Graphics.Element\n  exposing (..)\nport p:Signal Int\nmain =\n  Signal.map show p";
+    let spread =
+        "-- one port\nimport Graphics.Element\n  exposing (..)\nport p:Signal Int\nmain =\n  Signal.map show p";
     let (status, written) = run_first(rt.alloc(), spread.as_bytes(), b"", 4096, &NOTHING)?;
     assert_eq!(rt; written.as_slice(), b"at 0 of 0\n| 0\n.\n".as_slice());
     assert_eq!(rt; status, Status::Done);
@@ -222,7 +282,10 @@ fn files_and_words(rt: HostRuntime) -> Result<(), Fail> {
 #[test]
 fn a_file_that_is_too_large(rt: HostRuntime) -> Result<(), Fail> {
     let alloc = rt.alloc();
-    for (spaces, wanted) in [(262_144 - 83, Status::Done), (262_145 - 83, Status::ProjectRefused)] {
+    for (spaces, wanted) in [
+        (262_144 - 83, Status::Done),
+        (262_145 - 83, Status::ProjectRefused),
+    ] {
         let mut main = FIRST.to_vec(alloc)?;
         for _ in 0..spaces {
             main.push(b' ')?;
@@ -230,32 +293,83 @@ fn a_file_that_is_too_large(rt: HostRuntime) -> Result<(), Fail> {
         let (status, written) = run_first(alloc, &main, b"", 4096, &NOTHING)?;
         assert_eq!(rt; status, wanted);
         if wanted == Status::ProjectRefused {
-            assert_eq!(rt; written.as_slice(), b"refused ProjectRefused Main 0 TooLarge -\n".as_slice());
+            assert_eq!(rt;
+                written.as_slice(),
+                b"refused ProjectRefused Main 0 TooLarge -\n".as_slice()
+            );
+        }
+    }
+    Ok(())
+}
+
+// The calls are in turn: the first frame is written, and then each line is read and answered.
+fn ends_with(read: usize, write: usize) -> (Status, usize) {
+    if write <= read && write <= 4 {
+        (Status::WriteFault, 16 * (write - 1))
+    } else if read <= 4 {
+        (Status::ReadFault, 16 * read)
+    } else {
+        (Status::Done, 64)
+    }
+}
+
+#[test]
+fn failures_of_reads_and_writes(rt: HostRuntime) -> Result<(), Fail> {
+    let alloc = rt.alloc();
+    let script = b"input p 5\ninput p 6\ninput p 7\n";
+    let frames =
+        b"at 0 of 0\n| 0\n.\nat 1 of 1\n| 5\n.\nat 2 of 2\n| 6\n.\nat 3 of 3\n| 7\n.\n".as_slice();
+    for read in 1..=5usize {
+        for write in 1..=5usize {
+            let words = words_of(alloc, &["run", "first"])?;
+            let mut shelf = MemShelf::new(alloc, Vec::new(alloc));
+            shelf.add("first/Main.elm", FIRST)?;
+            let reads = vec![in alloc; read as u64]?;
+            let writes = vec![in alloc; write as u64]?;
+            let mut source = MemSource::new(script.to_vec(alloc)?, sizes_of(alloc, 10)?, reads);
+            let mut sink = MemSink::new(alloc, writes);
+            let status = run_counted(alloc, &words, &mut shelf, &mut source, &mut sink);
+            let (wanted, length) = ends_with(read, write);
+            assert_eq!(rt; status, wanted, "read {read}, write {write}");
+            assert_eq!(rt;
+                sink.bytes(),
+                frames.get(..length).ok_or("short")?,
+                "read {read}, write {write}"
+            );
         }
     }
     Ok(())
 }
 
 #[test]
-fn failures_of_the_outside(rt: HostRuntime) -> Result<(), Fail> {
-    let script = b"input p 5\ninput p 6\ninput p 7\n";
-    let frames = "at 0 of 0\n| 0\n.\nat 1 of 1\n| 5\n.\nat 2 of 2\n| 6\n.\nat 3 of 3\n| 7\n.\n";
-    // Reads of ten bytes give one line each. A read that fails ends the run after the answers to all lines before it.
-    let reads: [(&[u64], Status, usize); 5] = [
-        (&[1], Status::ReadFault, 16),
-        (&[2], Status::ReadFault, 32),
-        (&[3], Status::ReadFault, 48),
-        (&[4], Status::ReadFault, 64),
-        (&[5], Status::Done, 64),
-    ];
-    for (failing, wanted, length) in reads {
-        let failing = Failing {
-            reads: failing,
-            ..NOTHING
-        };
-        let (status, written) = run_first(rt.alloc(), FIRST, script, 10, &failing)?;
-        assert_eq!(rt; status, wanted);
-        assert_eq!(rt; written.as_slice(), &frames.as_bytes()[..length]);
-    }
+fn failures_of_texts(rt: HostRuntime) -> Result<(), Fail> {
+    let shelf = Failing {
+        reads: &[],
+        writes: &[],
+        calls: &[1],
+    };
+    let (status, written) = run_first(rt.alloc(), FIRST, b"input p 5\n", 4096, &shelf)?;
+    assert_eq!(rt; status, Status::ShelfFault);
+    assert_eq!(rt;
+        written.as_slice(),
+        b"refused Shelf first/Main.elm\n".as_slice()
+    );
+    let both = Failing {
+        reads: &[],
+        writes: &[1],
+        calls: &[1],
+    };
+    let (status, written) = run_first(rt.alloc(), FIRST, b"input p 5\n", 4096, &both)?;
+    assert_eq!(rt; status, Status::WriteFault);
+    assert!(rt; written.is_empty());
+    // A text that can't be written is a failed write, whatever it says.
+    let screen = Failing {
+        reads: &[],
+        writes: &[1],
+        calls: &[],
+    };
+    let (status, written) = run_first(rt.alloc(), b"x", b"", 4096, &screen)?;
+    assert_eq!(rt; status, Status::WriteFault);
+    assert!(rt; written.is_empty());
     Ok(())
 }

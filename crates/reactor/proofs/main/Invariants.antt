@@ -2,4 +2,4 @@ use Rattle.reactor.proofs.main.Given as goal
 
 -- the ledger of the steps is the blank one
 abbrev pub ghosts-run : goal.ghosts-run
-ghosts-run g a = record { name = a.blank.name; parts = a.blank.parts }
+ghosts-run a = record { name = a.blank.name; parts = a.blank.parts }

@@ -1,4 +1,4 @@
-use Rattle.std.proofs.Common.{◌≡◌, ◌+◌, ◌≤◌, length, drop, false}
+use Rattle.std.proofs.Common.{◌≡◌, ◌+◌, ◌≤◌, length}
 use Rattle.layout_lexer.specs.Pieces.{comment_from, comment_len}
 use Rattle.layout_lexer.proofs.blank.comment_len.Given as goal
 

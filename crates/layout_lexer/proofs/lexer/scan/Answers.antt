@@ -1,4 +1,4 @@
-use Rattle.std.proofs.Common.{◌≡◌, map, List, [], ◌∷◌, ◌++◌, sym, ap, ◌∙◌, append-nil, take-append-drop}
+use Rattle.std.proofs.Common.{◌≡◌, map, List, [], ◌++◌, sym, ap, ◌∙◌, append-nil, take-append-drop}
 use Rattle.std.specs.Prelude.{Option}
 use Rattle.elm_base.specs.declared.token.TokenKind.{TokenKind}
 use Rattle.layout_lexer.specs.Lexemes.{lexeme, Lexeme}

@@ -1,4 +1,4 @@
-use Rattle.std.proofs.Common.{◌≡◌, ◌+◌, ◌≤◌, length, false}
+use Rattle.std.proofs.Common.{◌≡◌, ◌+◌, length, false}
 use Rattle.layout_lexer.specs.Pieces.{quoted_from}
 use Rattle.layout_lexer.proofs.literal.quoted_end.Given as goal
 
