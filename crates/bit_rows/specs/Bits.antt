@@ -1,5 +1,5 @@
 -- Rows of bits as lists of booleans.
-use Rattle.std.specs.Prelude.{◌≡◌, ℕ, Bool, true, false, ◌||◌, IsTrue, List, [], ◌∷◌, slice_index_or, if◌then◌else◌}
+use Rattle.std.specs.Prelude.{◌≡◌, ℕ, Bool, false, ◌||◌, IsTrue, List, [], ◌∷◌, slice_index_or, if◌then◌else◌}
 
 -- whether the bit with this number is set in the row; past the end none is
 abbrev pub bit_in : List Bool → ℕ → Bool
