@@ -1,5 +1,5 @@
 -- How the run of a script ends, by the ends of its parts.
-use Rattle.std.proofs.Common.{◌≡◌, ◌<◌, ◌≤◌, ◌+◌, ◌++◌, ◌∙◌, arith, ℕ, List, [], ◌∷◌, Option, Some, None, length, drop, sym, ap, subst, refl, length-drop}
+use Rattle.std.proofs.Common.{◌≡◌, ◌<◌, ◌≤◌, ◌+◌, ◌++◌, ◌∙◌, arith, ℕ, List, [], Option, Some, None, length, drop, ap, subst, refl, length-drop}
 use Rattle.std.specs.Prelude.{IfSome}
 use Rattle.reactor_outside.specs.Count.{Rose}
 use Rattle.reactor_outside.specs.Sink.{with_bytes}
@@ -7,7 +7,7 @@ use Rattle.reactor_outside.specs.Shelf.{Files}
 use Rattle.reactor_outside.proofs.Taken.{with_bytes-with_bytes}
 use Rattle.reactor_meaning.specs.Script.{lines}
 use Rattle.reactor_meaning.specs.Program.{Program}
-use Rattle.reactor_meaning.specs.Command.{State, begun}
+use Rattle.reactor_meaning.specs.Command.{begun}
 use Rattle.reactor_meaning.specs.Transcript.{answers, transcript, frame_of}
 use Rattle.reactor_engine.specs.declared.session.Session.{Session}
 use Rattle.reactor_engine.specs.declared.status.Status.{Status}

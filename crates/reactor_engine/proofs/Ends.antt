@@ -1,5 +1,5 @@
 -- A text that is read from its end.
-use Rattle.std.proofs.Common.{◌≡◌, ◌≢◌, ◌<◌, ◌≤◌, ◌+◌, ◌-◌, ◌++◌, ◌∙◌, arith, ℕ, Bool, true, false, eqb, ltb, Option, Some, None, List, [], ◌∷◌, length, get_or, take, reverse, sym, ap, refl, length-append, cond, if◌then◌else◌, eq-eqb}
+use Rattle.std.proofs.Common.{◌≡◌, ◌≢◌, ◌<◌, ◌≤◌, ◌+◌, ◌-◌, ◌++◌, ◌∙◌, arith, ℕ, Bool, true, false, eqb, ltb, Some, None, List, [], ◌∷◌, length, get_or, take, reverse, sym, ap, refl, length-append, if◌then◌else◌, eq-eqb}
 use Rattle.std.proofs.lemmas.List.{reverse-append, take_more, take_all, reverse-reverse}
 use Rattle.std.proofs.lemmas.Bool.{ne_eqb, ltb-false}
 use Rattle.std.specs.Prelude.{not}

@@ -1,16 +1,16 @@
 -- A script that is answered line by line.
-use Rattle.std.proofs.Common.{◌≡◌, ◌<◌, ◌≤◌, ◌+◌, ◌-◌, ◌++◌, ◌⊎◌, ◌∙◌, min, inl, inr, ⊎_elim, arith, ℕ, Bool, true, false, List, [], ◌∷◌, None, length, take, sym, ap, subst, refl, append_assoc, length-append}
+use Rattle.std.proofs.Common.{◌≡◌, ◌<◌, ◌≤◌, ◌+◌, ◌-◌, ◌++◌, ◌⊎◌, ◌∙◌, min, inl, inr, ⊎_elim, arith, ℕ, true, false, List, [], ◌∷◌, None, length, take, sym, ap, subst, append_assoc}
 use Rattle.std.proofs.lemmas.List.{append-nil, take_all}
 use Rattle.std.proofs.lemmas.Bool.{cases_lt}
 use Rattle.std.proofs.Math.Seq.{take-append-add}
 use Rattle.reactor_outside.specs.Shelf.{Files}
 use Rattle.reactor_meaning.specs.Script.{ScriptLine, HasNoNewline, lines, read_line}
-use Rattle.reactor_meaning.specs.Command.{State, Step, next_line}
+use Rattle.reactor_meaning.specs.Command.{next_line}
 use Rattle.reactor_meaning.specs.Transcript.{answers, answer_text}
 use Rattle.reactor_meaning.proofs.Lines.{lines_ended, lines_last, no_newline-append, no_newline-take}
 use Rattle.reactor_meaning.proofs.Answering.{answers_cut}
 use Rattle.reactor_engine.specs.declared.session.Session.{Session}
-use Rattle.reactor_engine.specs.Session.{Answers, state_of}
+use Rattle.reactor_engine.specs.Session.{state_of}
 use Rattle.reactor_engine.specs.Feed.{owed, AnswersLine, AnswersPiece, AnswersEnd}
 
 -- a line that is answered is no longer owed

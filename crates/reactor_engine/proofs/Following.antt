@@ -1,5 +1,5 @@
 -- A script that is answered piece by piece.
-use Rattle.std.proofs.Common.{◌≡◌, ◌<◌, ◌≤◌, ◌+◌, ◌++◌, ◌∙◌, arith, ℕ, List, [], Option, Some, length, take, drop, sym, ap, refl, length-drop}
+use Rattle.std.proofs.Common.{◌≡◌, ◌≤◌, ◌+◌, ◌++◌, ◌∙◌, arith, ℕ, List, [], Option, Some, length, take, drop, sym, ap, length-drop}
 use Rattle.std.proofs.lemmas.List.{take-append-drop, drop-drop, append-nil}
 use Rattle.reactor_outside.specs.Shelf.{Files}
 use Rattle.reactor_outside.specs.Source.{after_bytes}

@@ -1,5 +1,5 @@
 -- What std's reader of integers reads, in the words of the literals of integers.
-use Rattle.std.proofs.Common.{w64, zero, suc, ◌≡◌, ◌≢◌, ◌<◌, ◌≤◌, ◌+◌, ◌^◌, ◌∙◌, arith, ℕ, ℤ, pos, neg_ℤ, Bool, true, false, eqb, cond, if◌then◌else◌, List, [], ◌∷◌, Option, Some, None, Result, Ok, Err, length, get_or, drop, sym, ap, refl, leb}
+use Rattle.std.proofs.Common.{w64, zero, suc, ◌≡◌, ◌≢◌, ◌<◌, ◌≤◌, ◌∙◌, arith, ℕ, ℤ, pos, neg_ℤ, Bool, true, false, eqb, if◌then◌else◌, List, [], ◌∷◌, Some, None, Result, Ok, Err, length, get_or, sym, ap, refl, leb}
 use Rattle.std.specs.Prelude.{◌&&◌}
 use Rattle.std.specs.Option.{option_map}
 use Rattle.std.specs.Result.{OkIff, result_ok}

@@ -1,5 +1,5 @@
 -- A project gives one thing.
-use Rattle.std.proofs.Common.{◌≡◌, ◌⊎◌, ◌∙◌, inl, inr, ℕ, Bool, true, false, List, [], Option, Some, None, Result, Ok, Err, length, sym, ap, refl, ltb}
+use Rattle.std.proofs.Common.{◌≡◌, ◌∙◌, inl, inr, ℕ, Bool, true, false, List, [], Option, Some, None, Result, Ok, Err, length, sym, ap, ltb}
 use Rattle.std.specs.Bool.{MatchBool}
 use Rattle.elm_base.specs.declared.fault.FaultKind.TheVariants as kind
 use Rattle.elm_base.specs.declared.fault.ProjectFault.{ProjectFault}

@@ -1,6 +1,6 @@
 -- What the end of a run says, clause by clause.
-use Rattle.std.proofs.Common.{◌≡◌, ◌≢◌, ◌⊎◌, ◌<◌, ◌≤◌, ◌∙◌, inl, inr, ⊎_elim, arith, ℕ, List, [], Option, Some, None, Result, Ok, Err, length, sym, ap, subst, refl}
-use Rattle.std.specs.Prelude.{IfSome, IsNone}
+use Rattle.std.proofs.Common.{◌≡◌, ◌≢◌, ◌<◌, ◌≤◌, inl, inr, ⊎_elim, arith, ℕ, List, [], Option, Some, None, Ok, Err, length, sym, subst, refl}
+use Rattle.std.specs.Prelude.{IfSome}
 use Rattle.elm_base.specs.declared.fault.ProjectFault.{ProjectFault}
 use Rattle.reactor_outside.specs.Count.{Rose}
 use Rattle.reactor_outside.specs.Sink.{with_bytes}
@@ -12,7 +12,7 @@ use Rattle.reactor_engine.specs.declared.status.Status.{Status}
 use Rattle.reactor_engine.specs.declared.status.Status.TheVariants.{Done, Usage, ProjectRefused, ReadFault, WriteFault, ShelfFault, ScriptTooLong, NoMemory}
 use Rattle.reactor_engine.specs.Project.{Compiles}
 use Rattle.reactor_engine.specs.Serving.{Outside, Serves, max_script}
-use Rattle.reactor_engine.specs.Run.{usage_text, Quiet, Ends, EndsWith, HasProgram, HasFault, AsksFor, IsRefusal, UsageRun, ProjectRun, Run, Tells, Reports}
+use Rattle.reactor_engine.specs.Run.{usage_text, Quiet, Ends, HasProgram, IsRefusal, UsageRun, ProjectRun, Run, Tells, Reports}
 use Rattle.reactor_engine.proofs.Endings.{told_map}
 use Rattle.reactor_engine.proofs.Projects.{not_program_and_fault}
 

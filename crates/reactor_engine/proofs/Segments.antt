@@ -1,5 +1,5 @@
 -- A name that is cut at its slashes.
-use Rattle.std.proofs.Common.{◌≡◌, ◌≢◌, ◌<◌, ◌++◌, ◌∙◌, arith, ℕ, Bool, true, false, eqb, cond, List, [], ◌∷◌, length, sym, ap, refl, length-append}
+use Rattle.std.proofs.Common.{◌≡◌, ◌≢◌, ◌<◌, ◌++◌, ◌∙◌, arith, ℕ, Bool, true, false, cond, List, [], ◌∷◌, length, ap, refl, length-append}
 use Rattle.std.specs.Prelude.{◌&&◌}
 use Rattle.std.specs.List.{list_all, onto_first}
 use Rattle.std.proofs.lemmas.Bool.{ne_eqb}

@@ -1,12 +1,9 @@
 -- The value of a port after one event more.
-use Rattle.std.proofs.Common.{◌≡◌, ◌+◌, ◌++◌, ◌∙◌, ℕ, ℤ, Bool, true, false, List, [], ◌∷◌, Option, Some, None, length, sym, ap, refl, if◌then◌else◌, arith, length-append, eq-eqb}
+use Rattle.std.proofs.Common.{◌≡◌, ◌+◌, ◌++◌, ◌∙◌, ℕ, ℤ, true, List, [], ◌∷◌, Some, None, length, sym, ap, refl, if◌then◌else◌, arith, length-append, eq-eqb}
 use Rattle.std.specs.Prelude.{◌&&◌}
 use Rattle.std.specs.Str.{bytes_eq}
 use Rattle.elm_base.specs.declared.command.Command.TheVariants as command
 use Rattle.elm_base.specs.declared.event.Event.{Event}
-use Rattle.elm_base.specs.declared.event.Event.TheVariants as event
-use Rattle.elm_base.specs.declared.event.PortType.TheVariants as type
-use Rattle.elm_base.specs.declared.event.PortValue.TheVariants as value
 use Rattle.reactor_outside.specs.Shelf.{Files}
 use Rattle.reactor_engine.specs.Session.{integer_event}
 use Rattle.reactor_meaning.specs.Literal.{integer_of}

@@ -1,5 +1,5 @@
 -- The run of the program: what its words, the files and the script give.
-use Rattle.std.specs.Prelude.{◌≡◌, ◌⊎◌, ◌<◌, ◌≤◌, ℕ, List, [], length, codes, Option, Some, None, Result, Ok, Err, IfSome}
+use Rattle.std.specs.Prelude.{◌≡◌, ◌⊎◌, ◌<◌, ℕ, List, [], length, codes, Option, Some, None, Result, Ok, Err, IfSome}
 use Rattle.elm_base.specs.declared.fault.ProjectFault.{ProjectFault}
 use Rattle.reactor_outside.specs.Count.{Rose}
 use Rattle.reactor_outside.specs.Sink.{with_bytes}

@@ -1,5 +1,5 @@
 -- How the run of a script ends.
-use Rattle.std.specs.Prelude.{◌≡◌, ◌<◌, ◌≤◌, ◌++◌, ℕ, List, length, Option, Some, IfSome}
+use Rattle.std.specs.Prelude.{◌≡◌, ◌<◌, ◌≤◌, ℕ, List, length, Option, IfSome}
 use Rattle.reactor_outside.specs.Count.{Rose}
 use Rattle.reactor_outside.specs.Sink.{with_bytes}
 use Rattle.reactor_outside.specs.Shelf.{Files}

@@ -1,12 +1,12 @@
 -- The answers to a script, as it is read.
-use Rattle.std.proofs.Common.{◌≡◌, ◌≢◌, ◌<◌, ◌≤◌, ◌+◌, ◌++◌, ◌⊎◌, ◌∙◌, arith, ℕ, Bool, true, false, cond, if◌then◌else◌, List, [], ◌∷◌, Option, None, length, take, sym, ap, refl, inl, inr, ⊎_elim, length-append}
+use Rattle.std.proofs.Common.{◌≡◌, ◌<◌, ◌≤◌, ◌++◌, ◌⊎◌, ◌∙◌, arith, ℕ, false, if◌then◌else◌, List, [], ◌∷◌, None, length, take, sym, ap, inl, inr, length-append}
 use Rattle.std.specs.Prelude.{◌&&◌}
 use Rattle.std.specs.List.{list_all}
 use Rattle.std.proofs.lemmas.Bool.{cases_lt, lt-leb}
 use Rattle.std.proofs.lemmas.List.{length-take-le, take_all}
 use Rattle.reactor_meaning.specs.Script.{ScriptLine, HasNoNewline, lines, read_line, is_plain, text_of, command_of}
-use Rattle.reactor_meaning.specs.Command.{State, Failure, next_line}
-use Rattle.reactor_meaning.specs.Transcript.{answers, answer_text, first_failure}
+use Rattle.reactor_meaning.specs.Command.{State, next_line}
+use Rattle.reactor_meaning.specs.Transcript.{answers, answer_text}
 use Rattle.reactor_meaning.proofs.Lines.{onto_lines, lines-append, onto_lines-cons, onto_lines-nil, no_newline-take}
 
 -- what stands before the newline of a line that is read

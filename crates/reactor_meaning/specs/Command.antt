@@ -2,9 +2,7 @@
 use Rattle.std.specs.Prelude.{ℕ, ◌+◌, ℤ, if◌then◌else◌, List, [], ◌∷◌, ◌++◌, length, Option, Some, None}
 use Rattle.elm_base.specs.declared.event.Event.{Event}
 use Rattle.elm_base.specs.declared.event.Event.TheVariants as event
-use Rattle.elm_base.specs.declared.event.PortType.{PortType}
 use Rattle.elm_base.specs.declared.event.PortType.TheVariants as type
-use Rattle.elm_base.specs.declared.event.PortValue.{PortValue}
 use Rattle.elm_base.specs.declared.event.PortValue.TheVariants as value
 use Rattle.elm_base.specs.declared.command.Command.{Command}
 use Rattle.elm_base.specs.declared.command.Command.TheVariants.{Input}

@@ -1,5 +1,5 @@
 -- What is written for a whole script.
-use Rattle.std.specs.Prelude.{ℕ, List, [], ◌∷◌, ◌++◌, drop, Option, Some, None}
+use Rattle.std.specs.Prelude.{ℕ, List, [], ◌∷◌, ◌++◌, drop, Option, None}
 use Rattle.reactor_outside.specs.Shelf.{Files}
 use Rattle.reactor_meaning.specs.Script.{ScriptLine, lines, read_line}
 use Rattle.reactor_meaning.specs.Program.{Program}

@@ -1,4 +1,4 @@
-use Rattle.std.specs.Prelude.{◌≡◌, ◌≢◌, ◌≤◌, ◌<◌, ◌⊎◌, ℕ, List, length, Option, Some, None, IfSome, Result, Ok, Err}
+use Rattle.std.specs.Prelude.{◌≡◌, ◌≢◌, ◌≤◌, ◌<◌, ℕ, List, length, Option, Some, None, Result, Ok, Err}
 use Rattle.reactor_outside.specs.declared.shelf.ShelfRefusal.{ShelfRefusal}
 use Rattle.reactor_outside.specs.declared.shelf.ShelfRefusal.TheVariants.{Missing, TooLong, Failed, NoMemory}
 use Rattle.reactor_outside.specs.Count.{Rose}

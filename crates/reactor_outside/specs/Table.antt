@@ -1,4 +1,4 @@
-use Rattle.std.specs.Prelude.{ℕ, List, String, Vec}
+use Rattle.std.specs.Prelude.{ℕ, String, Vec}
 use Rattle.std.specs.Option.{option_map}
 use Rattle.std.specs.BTreeMap.{BTreeMap, get_by_text}
 use Rattle.std.specs.declared.alloc.Global.{Global}

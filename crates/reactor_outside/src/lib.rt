@@ -25,3 +25,6 @@ pub use sink::{Sink, put};
 pub use source::{Failed, Source};
 pub use streams::{ReaderSource, WriterSink};
 pub use sure::{SureSink, SureSource};
+
+#[cfg(test)]
+mod tests;

@@ -1,5 +1,5 @@
-use Rattle.std.proofs.Common.{◌<◌, rules, length}
-use Rattle.reactor_engine.proofs.Feeding.{last_answered, nothing_owed}
+use Rattle.std.proofs.Common.{rules}
+use Rattle.reactor_engine.proofs.Feeding.{last_answered}
 use Rattle.reactor_engine.proofs.feed.answer_end.Goals as goal
 
 pub returns : goal.returns

@@ -1,4 +1,4 @@
-use Rattle.std.proofs.Common.{◌≡◌, ◌≤◌, ◌++◌, ℕ, List, length}
+use Rattle.std.proofs.Common.{◌≤◌, ◌++◌, ℕ, List, length}
 use Rattle.reactor_outside.specs.Shelf.{Files}
 use Rattle.reactor_meaning.specs.Script.{HasNoNewline}
 use Rattle.reactor_engine.specs.Feed.{AnswersPiece}

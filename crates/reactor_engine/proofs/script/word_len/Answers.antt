@@ -1,4 +1,3 @@
-use Rattle.std.proofs.Common.{sym}
 use Rattle.reactor_engine.proofs.Ends.{no_position}
 use Rattle.reactor_engine.proofs.script.word_len.Goals as goal
 

@@ -1,7 +1,6 @@
-use Rattle.std.proofs.Common.{◌≡◌, ◌≤◌, ◌<◌, ◌+◌, ◌∙◌, arith, ℕ, [], sym, length, take, drop}
-use Rattle.reactor_meaning.specs.Script.{HasNoNewline}
+use Rattle.std.proofs.Common.{◌≡◌, ◌≤◌, ◌∙◌, arith, [], length, take, drop}
 use Rattle.reactor_engine.specs.Feed.{owed}
-use Rattle.reactor_engine.specs.Serving.{in_the_end, max_script}
+use Rattle.reactor_engine.specs.Serving.{in_the_end}
 use Rattle.reactor_engine.proofs.Following.{rest_after}
 use Rattle.reactor_engine.proofs.Endings.{served_by_end, served_at_limit, told_at_end, told_too_long, told_at, told_map, if_told}
 use Rattle.reactor_engine.proofs.serve.follow.Goals as goal

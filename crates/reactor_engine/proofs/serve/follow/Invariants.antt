@@ -1,7 +1,6 @@
-use Rattle.std.proofs.Common.{◌≡◌, ◌≤◌, ◌-◌, ◌++◌, ℕ, List, Some, length, drop}
+use Rattle.std.proofs.Common.{◌≡◌, ◌≤◌, ◌-◌, ℕ, List, Some, length}
 use Rattle.reactor_outside.specs.Shelf.{Files}
 use Rattle.reactor_meaning.specs.Script.{HasNoNewline}
-use Rattle.reactor_engine.specs.Serving.{in_the_end}
 use Rattle.reactor_engine.proofs.Following.{Rest}
 use Rattle.reactor_engine.proofs.serve.follow.Given as goal
 

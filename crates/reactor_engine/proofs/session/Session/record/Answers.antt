@@ -1,4 +1,4 @@
-use Rattle.std.proofs.Common.{w64, ◌∙◌, ◌++◌, ◌∷◌, [], ap, sym}
+use Rattle.std.proofs.Common.{w64, ◌∙◌, ◌++◌, ◌∷◌, [], ap}
 use mir.Val.{to_z, of_z}
 use Rattle.reactor_meaning.specs.Program.{value_of}
 use Rattle.reactor_engine.proofs.Values.{value_of-push}
