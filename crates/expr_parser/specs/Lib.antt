@@ -1,0 +1,7 @@
+pub mod Terminals
+pub mod Rules
+pub mod Reader
+pub mod Nesting
+pub mod Types
+pub mod TypeReader
+pub mod TypeCalls
