@@ -5,3 +5,4 @@ pub mod TypeReadings
 pub mod NestingLaws
 pub mod Shallow
 pub mod TypeLaws
+pub mod SpellingLaws

@@ -3,6 +3,7 @@
 
 mod cursor;
 mod nesting;
+mod spelling;
 mod terminal;
 mod types;
 
