@@ -6,3 +6,5 @@ pub mod NestingLaws
 pub mod Shallow
 pub mod TypeLaws
 pub mod SpellingLaws
+pub mod PatternReadings
+pub mod PatternLaws

@@ -2,9 +2,12 @@
 ghost use Rattle.std.specs.Prelude.{◌≡◌, [], ◌∷◌, map};
 ghost use Rattle.elm_base.specs.declared.memory.Halt.TheVariants as halt;
 ghost use Rattle.expr_parser.specs.Terminals.{lexeme, starts};
+ghost use Rattle.expr_parser.specs.declared.terminal.Terminal.TheVariants as k;
 ghost use Rattle.expr_parser.specs.Reader as spec;
+ghost use Rattle.expr_parser.specs.Spelling as spelling;
 ghost use Rattle.expr_parser.specs.Reader.{Reads};
 
+use crate::spelling::{char_value, int_value, text_value};
 use crate::terminal::{Terminal, same_terminal, terminal_of};
 use elm_base::{At, Halt, Name, Spot, Token};
 use std::alloc::Global;
@@ -14,6 +17,10 @@ use std::marker::Model;
 #[derive(Clone, Copy, Debug, PartialEq, Eq)]
 pub struct NoTree;
 
+/// A tuple has at most so many parts.
+pub const MOST_PARTS: usize = 9;
+
+/// The tokens that are left, which contracts see as the list of them.
 #[derive(Drop)]
 pub struct Cursor<'a> {
     tokens: &'a [Token<'a>],
@@ -97,6 +104,72 @@ impl<'a> Cursor<'a> {
                     Ok(name)
                 } else {
                     Err(Halt::Because(NoTree))
+                }
+            }
+        }
+    }
+
+    /// The value of the next token, an Int.
+    #[tactic(auto, unfolding(crate::specs::Reader::spelled))]
+    pub fn int(&mut self) -> Result<i64, Halt<NoTree>>
+        ensures { Reads (spec.spelled k.Int spelling.int_value self.old) result self.new }
+    {
+        match self.tokens {
+            [] => Err(Halt::Because(NoTree)),
+            [token, rest @ ..] => {
+                if !same_terminal(terminal_of(token), Terminal::Int) {
+                    return Err(Halt::Because(NoTree));
+                }
+                match int_value(token.text) {
+                    None => Err(Halt::Because(NoTree)),
+                    Some(value) => {
+                        self.tokens = rest;
+                        Ok(value)
+                    }
+                }
+            }
+        }
+    }
+
+    /// The value of the next token, a Char.
+    #[tactic(auto, unfolding(crate::specs::Reader::spelled))]
+    pub fn character(&mut self, alloc: Global) -> Result<char, Halt<NoTree>>
+        ensures { Reads (spec.spelled k.Char spelling.char_value self.old) result self.new }
+    {
+        match self.tokens {
+            [] => Err(Halt::Because(NoTree)),
+            [token, rest @ ..] => {
+                if !same_terminal(terminal_of(token), Terminal::Char) {
+                    return Err(Halt::Because(NoTree));
+                }
+                match char_value(alloc, token.text)? {
+                    None => Err(Halt::Because(NoTree)),
+                    Some(value) => {
+                        self.tokens = rest;
+                        Ok(value)
+                    }
+                }
+            }
+        }
+    }
+
+    /// The value of the next token, a Text.
+    #[tactic(auto, unfolding(crate::specs::Reader::spelled))]
+    pub fn text(&mut self, alloc: Global) -> Result<Name, Halt<NoTree>>
+        ensures { Reads (spec.spelled k.Text spelling.text_value self.old) result self.new }
+    {
+        match self.tokens {
+            [] => Err(Halt::Because(NoTree)),
+            [token, rest @ ..] => {
+                if !same_terminal(terminal_of(token), Terminal::Text) {
+                    return Err(Halt::Because(NoTree));
+                }
+                match text_value(alloc, token.text)? {
+                    None => Err(Halt::Because(NoTree)),
+                    Some(value) => {
+                        self.tokens = rest;
+                        Ok(value)
+                    }
                 }
             }
         }

@@ -3,10 +3,12 @@
 
 mod cursor;
 mod nesting;
+mod patterns;
 mod spelling;
 mod terminal;
 mod types;
 
 pub use cursor::NoTree;
+pub use patterns::{one_pattern, pattern};
 pub use terminal::Terminal;
 pub use types::{one_type, type_text};

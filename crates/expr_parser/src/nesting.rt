@@ -1,8 +1,8 @@
 //! How deep trees nest, against a limit. The limit bounds the recursion.
 ghost use Rattle.std.specs.Prelude.{◌≡◌, ◌<◌, ◌≤◌, ◌↔◌, IsTrue, map};
-ghost use Rattle.expr_parser.specs.Nesting.{around, type_nesting};
+ghost use Rattle.expr_parser.specs.Nesting.{around, pattern_nesting, type_nesting};
 
-use elm_base::{Spot, TypeTree};
+use elm_base::{Pattern, Spot, TypeTree};
 
 /// Trees nest at most so deep.
 pub const MOST_NESTING: u32 = 100;
@@ -51,6 +51,50 @@ fn fields_nest_below(fields: &[(Spot, TypeTree)], limit: u32) -> bool
 {
     for (_, tree) in fields {
         if !type_nests_below(tree, limit) {
+            return false;
+        }
+    }
+    true
+}
+
+/// Whether the pattern nests at most so deep.
+#[cycle(patterns)]
+pub fn pattern_nests_within(tree: &Pattern, limit: u32) -> bool
+    ensures { IsTrue result ↔ (pattern_nesting tree.now ≤ limit) }
+{
+    match tree {
+        Pattern::Anything { .. } => true,
+        Pattern::Variable { .. } => true,
+        Pattern::Int { .. } => true,
+        Pattern::Char { .. } => true,
+        Pattern::Text { .. } => true,
+        Pattern::Unit { .. } => true,
+        Pattern::Fields { .. } => true,
+        Pattern::Made { parts, .. } => patterns_nest_below(parts.as_slice(), limit),
+        Pattern::List { parts, .. } => patterns_nest_below(parts.as_slice(), limit),
+        Pattern::Tuple { parts, .. } => patterns_nest_below(parts.as_slice(), limit),
+        Pattern::Brackets { inner, .. } => pattern_nests_below(inner.get(), limit),
+        Pattern::Named { inner, .. } => pattern_nests_below(inner.get(), limit),
+        Pattern::Cons { head, tail, .. } => {
+            pattern_nests_below(head.get(), limit) && pattern_nests_below(tail.get(), limit)
+        }
+    }
+}
+
+/// Whether the pattern nests less deep.
+#[cycle(patterns)]
+fn pattern_nests_below(tree: &Pattern, limit: u32) -> bool
+    ensures { IsTrue result ↔ (pattern_nesting tree.now < limit) }
+{
+    limit > 0 && pattern_nests_within(tree, limit - 1)
+}
+
+#[cycle(patterns)]
+fn patterns_nest_below(trees: &[Pattern], limit: u32) -> bool
+    ensures { IsTrue result ↔ (around (map pattern_nesting trees.now) ≤ limit) }
+{
+    for tree in trees {
+        if !pattern_nests_below(tree, limit) {
             return false;
         }
     }

@@ -32,7 +32,9 @@ fn is_number(text: &[u8]) -> bool
 fn with_digit(number: u64, digit: u8) -> Option<u64>
     ensures { MatchOption result (2 ^ 64 ≤ number * 10 + (digit - 48)) (λ next. next ≡ number * 10 + (digit - 48)) }
 {
-    number.checked_mul(10)?.checked_add(u64::from(digit.saturating_sub(48)))
+    number
+        .checked_mul(10)?
+        .checked_add(u64::from(digit.saturating_sub(48)))
 }
 
 /// The number that the digits write, where it is below 2^64.
@@ -112,11 +114,8 @@ fn one_char(bytes: &[u8]) -> Option<char>
 /// Adds what the byte stands for to the bytes. Gives whether a backslash stands before the next byte, or `None` where the
 /// byte is no escape behind a backslash.
 fn put(bytes: &mut Vec<u8>, escaped: bool, byte: u8) -> Result<Option<bool>, NoMemory>
-    ensures
-    {
-        IfOk result (λ next. (rest : List ℕ) →
-            spec.behind bytes.old.items (spec.unescaped escaped (byte ∷ rest)) ≡ spec.goes_on bytes.new.items next rest)
-    }
+    ensures { IfOk result (λ next. (rest : List ℕ) →
+        spec.behind bytes.old.items (spec.unescaped escaped (byte ∷ rest)) ≡ spec.goes_on bytes.new.items next rest) }
 {
     if escaped {
         return match escape(byte) {

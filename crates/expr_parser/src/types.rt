@@ -10,15 +10,12 @@ ghost use Rattle.expr_parser.specs.Types.{DerivesType};
 ghost use Rattle.expr_parser.specs.TypeReader as spec;
 ghost use Rattle.expr_parser.specs.TypeCalls.{ReadsTypes};
 
-use crate::cursor::{Cursor, NoTree};
+use crate::cursor::{Cursor, MOST_PARTS, NoTree};
 use crate::nesting::{MOST_NESTING, type_nests_within};
 use crate::terminal::Terminal;
 use elm_base::{At, Halt, Spot, Token, TypeTree};
 use sqlite_items::{Boxed, Items};
 use std::alloc::{AllocError, Global};
-
-/// A tuple has at most so many parts.
-const MOST_PARTS: usize = 9;
 
 /// Of a type that nests within the limit, so many whole types stand inside each other at most.
 const DEPTH: usize = 101;

@@ -2,26 +2,12 @@ use Rattle.std.proofs.Common.{◌≡◌, ◌<◌, ◌≤◌, IsTrue, Bool, true,
 use Rattle.elm_base.specs.declared.tree.Spot.{Spot}
 use Rattle.elm_base.specs.declared.tree.TypeTree.{TypeTree}
 use Rattle.expr_parser.specs.Nesting.{around, type_nesting}
-use Rattle.expr_parser.proofs.NestingLaws.{of_fields, around_at, around_turn}
+use Rattle.expr_parser.proofs.NestingLaws.{of_fields, more, none}
 use Rattle.expr_parser.proofs.nesting.+types.Goals as goal
 
 pub type_nests_within-returns-in-Fields : goal.type_nests_within-returns-in-Fields
 type_nests_within-returns-in-Fields t c =
     rw (c.in-Fields.is, of_fields, ← c.as_slice-in-Fields.ensures) c.fields_nest_below.ensures
-
--- The turn of a loop over parts, by what was said of the part at hand.
-module _ {A : Type 0} (f : A → ℕ) (xs : List A) (i limit : ℕ) (item : A) (b : Bool) (here : i < length xs) (is : item ≡ get_or xs i item)
-    (within : IsTrue b → f item < limit) (so : f item < limit → IsTrue b) where
-  more : b ≡ true → around (map f (take i xs)) ≤ limit → around (map f (take (i + 1) xs)) ≤ limit
-  more e h = around_turn f xs i limit item here h (subst (λ z. f z < limit) is (within e))
-
-  none : b ≡ false → (IsTrue false → around (map f xs) ≤ limit) × (around (map f xs) ≤ limit → IsTrue false)
-  none e = (
-    λ h. cc,
-    λ h.
-        let below : f (get_or xs i item) < limit = omega (arith, around_at f xs i item here) in
-        sym e ∙ so (subst (λ z. f z < limit) (sym is) below),
-  )
 
 pub types_nest_below-loop-tree-preserved : goal.types_nest_below-loop-tree-preserved
 types_nest_below-loop-tree-preserved t c =
