@@ -1,8 +1,7 @@
 -- What it is that a parser reads a rule, and that this holds of what is put together of such.
-use Rattle.std.proofs.Common.{◌≡◌, ◌≢◌, ℕ, zero, suc, ◌+◌, ◌<◌, ◌≤◌, Bool, true, false, not, ◌&&◌, ◌||◌, if◌then◌else◌, ◌⊎◌, inl, inr, ⊎_elim, List, [], ◌∷◌, ◌++◌, length, refl, sym, ◌∙◌, ap, subst, append_assoc, arith, rules, length-append, Option, Some, None}
+use Rattle.std.proofs.Common.{◌≡◌, ℕ, zero, suc, ◌≤◌, Bool, true, false, not, ◌&&◌, ◌||◌, if◌then◌else◌, ◌⊎◌, inl, inr, ⊎_elim, List, [], ◌∷◌, ◌++◌, length, refl, sym, ◌∙◌, ap, subst, append_assoc, arith, rules, length-append, Option, Some, None}
 use denote.Enum.Bare.{same_true, true_same}
 use Rattle.elm_base.specs.declared.token.At.{At}
-use Rattle.elm_base.specs.declared.tree.Spot.{Spot}
 use Rattle.expr_parser.specs.contracts.terminal.Terminal.{the_type}
 use Rattle.expr_parser.specs.declared.terminal.Terminal.{Terminal}
 use Rattle.expr_parser.specs.declared.terminal.Terminal.TheVariants as k

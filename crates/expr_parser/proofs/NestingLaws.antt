@@ -1,5 +1,5 @@
 -- The nesting of each form of tree.
-use Rattle.std.proofs.Common.{IsTrue, Bool, true, false, subst, ◌≡◌, ℕ, zero, suc, ◌-◌, ◌<◌, ◌≤◌, max, List, [], ◌∷◌, ◌++◌, length, get_or, map, take, ◌+◌, add-one, Option, refl, sym, ◌∙◌, ap, arith}
+use Rattle.std.proofs.Common.{IsTrue, Bool, true, false, subst, ◌≡◌, ℕ, zero, suc, ◌-◌, ◌<◌, ◌≤◌, List, [], ◌∷◌, ◌++◌, length, get_or, map, take, ◌+◌, add-one, Option, refl, sym, ◌∙◌, ap, arith}
 use Rattle.std.proofs.Math.Seq.{take-suc}
 use Rattle.std.proofs.lemmas.List.{map-append}
 use Rattle.elm_base.specs.declared.token.At.{At}

@@ -1,5 +1,5 @@
 -- A pattern derives at any depth that its nesting needs, and so only one derives from a list of tokens.
-use Rattle.std.proofs.Common.{◌≡◌, ◌≢◌, ℕ, zero, suc, ◌<◌, ◌≤◌, max, Bool, true, false, List, [], ◌∷◌, ◌++◌, map, Option, Some, None, refl, sym, ◌∙◌, ap, subst, append-nil, arith}
+use Rattle.std.proofs.Common.{◌≡◌, ◌≢◌, ℕ, zero, suc, ◌<◌, ◌≤◌, max, true, false, List, [], ◌∷◌, Option, Some, None, refl, sym, ◌∙◌, ap, subst, append-nil, arith}
 use Rattle.elm_base.specs.declared.memory.Halt.{Halt}
 use Rattle.elm_base.specs.declared.memory.Halt.TheVariants as halt
 use Rattle.elm_base.specs.declared.token.At.{At}
@@ -11,7 +11,7 @@ use Rattle.expr_parser.specs.Terminals.{Lexeme}
 use Rattle.expr_parser.specs.Rules as rule
 use Rattle.expr_parser.specs.Rules.{Rule, at_most_nine}
 use Rattle.expr_parser.specs.Reader as reader
-use Rattle.expr_parser.specs.Nesting.{around, pattern_nesting}
+use Rattle.expr_parser.specs.Nesting.{pattern_nesting}
 use Rattle.expr_parser.specs.Patterns as g
 use Rattle.expr_parser.specs.Patterns.{DerivesPattern}
 use Rattle.expr_parser.specs.PatternReader as m

@@ -1,19 +1,17 @@
 -- The parser of patterns reads their grammar.
-use Rattle.std.proofs.Common.{◌≡◌, ℕ, zero, suc, Bool, true, false, ◌⊎◌, List, [], ◌∷◌, ◌++◌, refl, sym, ◌∙◌, ap, subst, Option, Some, None}
-use Rattle.elm_base.specs.declared.tree.Spot.{Spot}
+use Rattle.std.proofs.Common.{ℕ, zero, suc, true, false, List, [], ◌∷◌, refl}
 use Rattle.elm_base.specs.declared.tree.Pattern.{Pattern}
 use Rattle.expr_parser.specs.declared.terminal.Terminal.{Terminal}
 use Rattle.expr_parser.specs.declared.terminal.Terminal.TheVariants as k
-use Rattle.expr_parser.specs.Terminals.{Lexeme, same_terminal, has, starts}
+use Rattle.expr_parser.specs.Terminals.{same_terminal}
 use Rattle.expr_parser.specs.Spelling.{int_value, char_value, text_value}
 use Rattle.expr_parser.specs.Rules as rule
 use Rattle.expr_parser.specs.Rules.{Rule, at_most_nine}
-use Rattle.expr_parser.specs.Reader as reader
 use Rattle.expr_parser.specs.Reader.{Parser}
 use Rattle.expr_parser.specs.Patterns as g
 use Rattle.expr_parser.specs.PatternReader as m
 use Rattle.expr_parser.specs.PatternReader.{patterns_begin}
-use Rattle.expr_parser.proofs.Laws.{Reading, Sound, apart, covers, firsts, mores, seq, by, within, spelled, name, mark, nothing, either, optional, only, at, many, spot}
+use Rattle.expr_parser.proofs.Laws.{Reading, seq, by, within, spelled, name, mark, nothing, either, optional, only, at, many, spot}
 
 pub anything_reads : Reading g.anything m.anything false (k.Underscore ∷ []) []
 unfolding m.anything same_terminal

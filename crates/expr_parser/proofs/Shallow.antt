@@ -1,6 +1,5 @@
 -- What a rule takes with a bound on its value, another takes as well. So a tree derives at any depth that its nesting needs.
-use Rattle.std.proofs.Common.{◌≡◌, ℕ, ◌≤◌, ◌⊎◌, ⊎_elim, inl, inr, List, [], ◌∷◌, ◌++◌, Bool, true, Option, Some, None, sym, subst}
-use Rattle.elm_base.specs.declared.token.At.{At}
+use Rattle.std.proofs.Common.{⊎_elim, inl, inr, List, [], ◌∷◌, Bool, subst}
 use Rattle.expr_parser.specs.Terminals.{Lexeme}
 use Rattle.expr_parser.specs.Rules as rule
 use Rattle.expr_parser.specs.Rules.{Rule}

@@ -1,9 +1,9 @@
 -- Laws of the spellings of literals.
-use Rattle.std.proofs.Common.{◌≡◌, ℕ, zero, suc, ◌+◌, ◌*◌, ◌-◌, ◌^◌, ◌<◌, ◌≤◌, ◌==◌, Bool, true, false, if◌then◌else◌, List, [], ◌∷◌, ◌++◌, length, get_or, drop, drop-cons, drop_of_length-le, add-one, append_assoc, append-nil, Option, Some, None, refl, sym, ◌∙◌, ap, subst, arith, ⊎_elim}
-use Rattle.std.specs.Str.{IsUtf8, chars, is_utf8}
+use Rattle.std.proofs.Common.{◌≡◌, ℕ, ◌+◌, ◌*◌, ◌-◌, ◌<◌, ◌≤◌, List, [], ◌∷◌, ◌++◌, length, get_or, drop, drop-cons, add-one, append_assoc, Option, Some, None, refl, sym, ap, arith, ⊎_elim}
+use Rattle.std.specs.Str.{IsUtf8, is_utf8}
 use Rattle.std.proofs.lemmas.Str.{IsUtf8-from_is_utf8, is_utf8-from_IsUtf8, chars_past_char, chars-nil, IsUtf8-past_char}
 use Rattle.std.specs.Char.{encode_utf8}
-use Rattle.expr_parser.specs.Spelling.{number, number_after, unescaped, behind, goes_on, before, escape, only_one, one_char}
+use Rattle.expr_parser.specs.Spelling.{number_after, behind, before, one_char}
 use Rattle.expr_parser.proofs.Laws.{true_or_false}
 
 -- ---- numbers

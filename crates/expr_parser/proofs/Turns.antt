@@ -1,13 +1,13 @@
 -- A loop that reads items, beside `many`.
-use Rattle.std.proofs.Common.{◌≡◌, ◌≢◌, ℕ, zero, suc, ◌+◌, ◌<◌, ◌≤◌, Bool, true, false, if◌then◌else◌, List, [], ◌∷◌, ◌++◌, length, refl, sym, ◌∙◌, ap, subst, append_assoc, append-nil, arith, length-append, Option, Some, None}
+use Rattle.std.proofs.Common.{◌≡◌, ◌≢◌, ℕ, zero, suc, ◌<◌, ◌≤◌, Bool, true, false, if◌then◌else◌, List, [], ◌∷◌, ◌++◌, length, refl, sym, ◌∙◌, ap, append_assoc, append-nil, arith, length-append, Some, None}
 use Rattle.elm_base.specs.declared.memory.Halt.{Halt}
 use Rattle.elm_base.specs.declared.memory.Halt.TheVariants as halt
 use Rattle.expr_parser.specs.declared.cursor.NoTree.{NoTree}
 use Rattle.expr_parser.specs.declared.terminal.Terminal.{Terminal}
-use Rattle.expr_parser.specs.Terminals.{Lexeme, starts}
+use Rattle.expr_parser.specs.Terminals.{Lexeme}
 use Rattle.expr_parser.specs.Rules.{Rule}
 use Rattle.expr_parser.specs.Reader.{Outcome, Parser, and_then, turns, with_front, ◌⊗◌, ◌<$>◌}
-use Rattle.expr_parser.proofs.Laws.{Reading, some_of, then_ok, ok_same}
+use Rattle.expr_parser.proofs.Laws.{Reading, some_of}
 
 -- it takes at least one token
 abbrev pub Takes : {A : Type 0} → Parser A → Type 0

@@ -1,18 +1,16 @@
 -- The parser of types reads their grammar.
-use Rattle.std.proofs.Common.{◌≡◌, ℕ, zero, suc, Bool, true, false, ◌⊎◌, List, [], ◌∷◌, ◌++◌, refl, sym, ◌∙◌, ap, subst, append-nil, Option, Some, None}
-use Rattle.elm_base.specs.declared.tree.Spot.{Spot}
+use Rattle.std.proofs.Common.{ℕ, zero, suc, true, false, List, [], ◌∷◌, refl, None}
 use Rattle.elm_base.specs.declared.tree.TypeTree.{TypeTree}
 use Rattle.expr_parser.specs.declared.terminal.Terminal.{Terminal}
 use Rattle.expr_parser.specs.declared.terminal.Terminal.TheVariants as k
-use Rattle.expr_parser.specs.Terminals.{Lexeme, same_terminal, has, starts}
+use Rattle.expr_parser.specs.Terminals.{same_terminal}
 use Rattle.expr_parser.specs.Rules as rule
 use Rattle.expr_parser.specs.Rules.{Rule, at_most_nine}
-use Rattle.expr_parser.specs.Reader as reader
 use Rattle.expr_parser.specs.Reader.{Parser}
 use Rattle.expr_parser.specs.Types as g
 use Rattle.expr_parser.specs.TypeReader as m
 use Rattle.expr_parser.specs.TypeReader.{arguments_begin}
-use Rattle.expr_parser.proofs.Laws.{Reading, Sound, apart, covers, firsts, mores, seq, by, within, name, mark, nothing, either, optional, only, at, many, spot}
+use Rattle.expr_parser.proofs.Laws.{Reading, seq, by, within, name, mark, nothing, either, optional, only, at, many, spot}
 
 pub variable_reads : Reading g.variable m.variable false (k.Lower ∷ []) []
 unfolding m.variable same_terminal

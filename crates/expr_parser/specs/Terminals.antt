@@ -1,5 +1,5 @@
 -- What a token is to the grammar, apart from what its spelling stands for.
-use Rattle.std.specs.Prelude.{◌≡◌, ◌<◌, ℕ, nat_eq, Bool, true, false, ◌||◌, ◌==◌, if◌then◌else◌, List, [], ◌∷◌, codes}
+use Rattle.std.specs.Prelude.{ℕ, nat_eq, Bool, false, ◌||◌, ◌==◌, if◌then◌else◌, List, [], ◌∷◌, codes}
 use Rattle.std.specs.List.{list_any}
 use denote.Enum.Bare.{sameb}
 use lib.Pointwise.{pointwise}

@@ -10,7 +10,6 @@ mod types;
 
 pub use cursor::NoTree;
 pub use patterns::{one_pattern, pattern};
-pub use terminal::Terminal;
 pub use types::{one_type, type_text};
 
 #[cfg(test)]

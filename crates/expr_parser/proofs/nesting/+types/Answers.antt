@@ -1,7 +1,6 @@
-use Rattle.std.proofs.Common.{◌≡◌, ◌<◌, ◌≤◌, IsTrue, Bool, true, false, map, ℕ, List, length, get_or, take, ◌+◌, subst, sym, ◌∙◌, arith}
 use Rattle.elm_base.specs.declared.tree.Spot.{Spot}
 use Rattle.elm_base.specs.declared.tree.TypeTree.{TypeTree}
-use Rattle.expr_parser.specs.Nesting.{around, type_nesting}
+use Rattle.expr_parser.specs.Nesting.{type_nesting}
 use Rattle.expr_parser.proofs.NestingLaws.{of_fields, more, none}
 use Rattle.expr_parser.proofs.nesting.+types.Goals as goal
 

@@ -1,4 +1,4 @@
-use Rattle.std.proofs.Common.{◌≡◌, [], ◌∷◌, ◌∙◌, refl, sym, ap, rules, arith}
+use Rattle.std.proofs.Common.{[], ◌∷◌, refl, sym, rules, arith}
 use Rattle.std.proofs.lemmas.Grind.{common_steps}
 use Rattle.std.proofs.lemmas.Result.{err_from_is_err_and}
 use Rattle.expr_parser.specs.declared.terminal.Terminal.TheVariants as k
@@ -6,8 +6,8 @@ use Rattle.expr_parser.specs.PatternReader as m
 use Rattle.expr_parser.specs.PatternReader.{cons_at, patterns, parts, spots}
 use Rattle.expr_parser.specs.Reader as reader
 use Rattle.expr_parser.specs.Reader.{with_front, many}
-use Rattle.expr_parser.proofs.Turns.{takes, loop_turn, loop_err, loop_ends, with_none, with_one}
-use Rattle.expr_parser.proofs.PatternReadings.{cons_reads, next_reads, part_reads, next_spot_reads}
+use Rattle.expr_parser.proofs.Turns.{takes, loop_turn, loop_err, loop_ends, with_one}
+use Rattle.expr_parser.proofs.PatternReadings.{next_spot_reads}
 use Rattle.expr_parser.proofs.patterns.spots.Goals as goal
 
 pub returns-in_err-spot : goal.returns-in_err-spot

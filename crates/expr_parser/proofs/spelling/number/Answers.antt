@@ -1,4 +1,4 @@
-use Rattle.std.proofs.Common.{◌≡◌, ◌≤◌, ◌+◌, ◌*◌, ◌-◌, drop, get_or, refl, arith}
+use Rattle.std.proofs.Common.{◌≡◌, ◌+◌, ◌*◌, ◌-◌, drop, get_or, refl, arith}
 use Rattle.expr_parser.specs.Spelling.{number, number_after}
 use Rattle.expr_parser.proofs.SpellingLaws.{number_after-le, number_turn}
 use Rattle.expr_parser.proofs.spelling.number.Goals as goal

@@ -1,5 +1,4 @@
-use Rattle.std.proofs.Common.{◌≡◌, ◌∙◌, ap, sym, refl, ne_eqb}
-use Rattle.expr_parser.specs.Spelling as spec
+use Rattle.std.proofs.Common.{ne_eqb}
 use Rattle.expr_parser.proofs.SpellingLaws.{behind_one}
 use Rattle.expr_parser.proofs.spelling.put.Goals as goal
 

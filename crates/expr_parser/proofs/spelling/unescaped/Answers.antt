@@ -1,4 +1,4 @@
-use Rattle.std.proofs.Common.{◌≡◌, ◌∙◌, ◌+◌, ap, sym, suc, drop, get_or, drop-cons, add-one}
+use Rattle.std.proofs.Common.{◌∙◌, ap, sym, suc, drop, drop-cons, add-one}
 use Rattle.expr_parser.specs.Spelling as spec
 use Rattle.expr_parser.proofs.spelling.unescaped.Goals as goal
 

@@ -1,4 +1,4 @@
-use Rattle.std.proofs.Common.{◌≡◌, ◌∙◌, sym, ap, subst, ◌≤◌, false}
+use Rattle.std.proofs.Common.{◌∙◌, sym, ap, subst, ◌≤◌}
 use Rattle.std.proofs.lemmas.Result.{err_from_is_err_and}
 use Rattle.expr_parser.specs.Nesting.{type_nesting}
 use Rattle.expr_parser.specs.TypeReader as m

@@ -1,13 +1,9 @@
-use Rattle.std.proofs.Common.{◌≡◌, [], ◌∷◌, ◌∙◌, refl, sym, ap, rules, arith}
-use Rattle.std.proofs.lemmas.Grind.{common_steps}
+use Rattle.std.proofs.Common.{refl, sym}
 use Rattle.std.proofs.lemmas.Result.{err_from_is_err_and}
-use Rattle.expr_parser.specs.declared.terminal.Terminal.TheVariants as k
-use Rattle.expr_parser.specs.PatternReader as m
-use Rattle.expr_parser.specs.PatternReader.{cons_at, patterns, parts, spots}
-use Rattle.expr_parser.specs.Reader as reader
-use Rattle.expr_parser.specs.Reader.{with_front, many}
-use Rattle.expr_parser.proofs.Turns.{takes, loop_turn, loop_err, loop_ends, with_none, with_one}
-use Rattle.expr_parser.proofs.PatternReadings.{cons_reads, next_reads, part_reads, next_spot_reads}
+use Rattle.expr_parser.specs.PatternReader.{parts}
+use Rattle.expr_parser.specs.Reader.{many}
+use Rattle.expr_parser.proofs.Turns.{takes, loop_turn, loop_err, loop_ends, with_none}
+use Rattle.expr_parser.proofs.PatternReadings.{cons_reads, part_reads}
 use Rattle.expr_parser.proofs.patterns.Patterns.parts.Goals as goal
 
 pub turns-init : goal.turns-init

@@ -1,13 +1,12 @@
-use Rattle.std.proofs.Common.{◌≡◌, [], ◌∷◌, ◌∙◌, refl, sym, ap, rules, arith}
+use Rattle.std.proofs.Common.{[], ◌∷◌, refl, sym, rules, arith}
 use Rattle.std.proofs.lemmas.Grind.{common_steps}
 use Rattle.std.proofs.lemmas.Result.{err_from_is_err_and}
 use Rattle.expr_parser.specs.declared.terminal.Terminal.TheVariants as k
 use Rattle.expr_parser.specs.PatternReader as m
 use Rattle.expr_parser.specs.PatternReader.{cons_at, patterns, parts, spots}
-use Rattle.expr_parser.specs.Reader as reader
-use Rattle.expr_parser.specs.Reader.{with_front, many}
-use Rattle.expr_parser.proofs.Turns.{takes, loop_turn, loop_err, loop_ends, with_none, with_one}
-use Rattle.expr_parser.proofs.PatternReadings.{cons_reads, next_reads, part_reads, next_spot_reads}
+use Rattle.expr_parser.specs.Reader.{many}
+use Rattle.expr_parser.proofs.Turns.{takes, loop_turn, loop_err, loop_ends, with_one}
+use Rattle.expr_parser.proofs.PatternReadings.{cons_reads, next_reads}
 use Rattle.expr_parser.proofs.patterns.Patterns.patterns.Goals as goal
 
 pub returns-in_err-whole : goal.returns-in_err-whole

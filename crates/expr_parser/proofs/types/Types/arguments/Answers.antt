@@ -1,12 +1,9 @@
-use Rattle.std.proofs.Common.{◌≡◌, [], ◌∷◌, ◌∙◌, refl, sym, ap, rules, arith}
-use Rattle.std.proofs.lemmas.Grind.{common_steps}
+use Rattle.std.proofs.Common.{refl, sym}
 use Rattle.std.proofs.lemmas.Result.{err_from_is_err_and}
-use Rattle.expr_parser.specs.declared.terminal.Terminal.TheVariants as k
-use Rattle.expr_parser.specs.TypeReader as m
-use Rattle.expr_parser.specs.TypeReader.{type_at, types, more_fields, arguments}
-use Rattle.expr_parser.specs.Reader.{with_front, many}
-use Rattle.expr_parser.proofs.Turns.{takes, loop_turn, loop_err, loop_ends, with_none, with_one}
-use Rattle.expr_parser.proofs.TypeReadings.{type_reads, next_reads, next_field_reads, argument_reads}
+use Rattle.expr_parser.specs.TypeReader.{arguments}
+use Rattle.expr_parser.specs.Reader.{many}
+use Rattle.expr_parser.proofs.Turns.{takes, loop_turn, loop_err, loop_ends, with_none}
+use Rattle.expr_parser.proofs.TypeReadings.{type_reads, argument_reads}
 use Rattle.expr_parser.proofs.types.Types.arguments.Goals as goal
 
 pub turns-init : goal.turns-init

@@ -1,5 +1,4 @@
-use Rattle.std.proofs.Common.{◌≡◌, [], ◌∷◌, length}
-use Rattle.expr_parser.specs.declared.terminal.Terminal.TheVariants as k
+use Rattle.std.proofs.Common.{◌≡◌, length}
 use Rattle.expr_parser.specs.Reader.{with_front, many}
 use Rattle.expr_parser.specs.TypeReader as m
 use Rattle.expr_parser.specs.TypeReader.{type_at, arguments_begin}
