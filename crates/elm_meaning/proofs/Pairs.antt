@@ -2,7 +2,7 @@
 use Rattle.std.proofs.Common.{ℕ, suc, ◌<◌, Bool, true, false, arith}
 use Rattle.elm_meaning.specs.declared.compared.Compared.{Compared}
 use Rattle.elm_meaning.specs.declared.compared.Comparison.{Comparison}
-use Rattle.elm_meaning.specs.declared.compared.Comparison.TheVariants.{Equality, Order}
+use Rattle.elm_meaning.specs.declared.compared.Comparison.TheVariants.{Equality}
 use Rattle.elm_meaning.specs.Values.{Value, Number, Character, Text, UnitValue, Nil, Cons, Tuple, Made, Record, Applicable, Element, Signal}
 use Rattle.elm_meaning.specs.PairsVisited.{visited, parts_where}
 

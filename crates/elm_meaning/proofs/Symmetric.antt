@@ -1,16 +1,15 @@
 -- An equality finds the same on both sides.
-use Rattle.std.proofs.Common.{◌≡◌, ℕ, ◌==◌, ◌&&◌, Bool, true, false, List, [], ◌∷◌, refl, sym, ap, ◌∙◌}
+use Rattle.std.proofs.Common.{◌≡◌, ℕ, ◌&&◌, Bool, List, [], ◌∷◌, refl, ap, ◌∙◌}
 use Rattle.std.proofs.lemmas.Cmp.{nat_cmp_total, int_cmp_total, nat_list_eq_equiv, nat_eq_equiv}
 use Rattle.std.specs.Cmp.Lexicographic.{pointwise}
 use Rattle.std.specs.Str.{chars, bytes_eq}
 use Rattle.std.specs.Ordering.{nat_cmp, int_cmp, ordering_reverse}
 use Rattle.std.specs.declared.cmp.Ordering.{Ordering}
 use Rattle.std.specs.declared.cmp.Ordering.TheVariants.{Less, Equal, Greater}
-use Rattle.elm_meaning.specs.declared.compared.Compared.{Compared}
 use Rattle.elm_meaning.specs.declared.compared.Comparison.TheVariants.{Equality}
 use Rattle.elm_meaning.specs.Values.{Value, Values, Fields, Number, Character, Text, UnitValue, Nil, Cons, Tuple, Made, Record, Applicable, Element, Signal, NoValues, AndValue, NoFields, AndField}
 use Rattle.elm_meaning.specs.Records.{labels}
-use Rattle.elm_meaning.specs.PairsVisited.{found, told, one, after_one, and_then, places, cells, same_number, same_labels, parts_where, visited, all_visited, fields_visited}
+use Rattle.elm_meaning.specs.PairsVisited.{found, one, after_one, and_then, places, cells, same_number, parts_where, visited, all_visited, fields_visited}
 
 found_reverse : (o : Ordering) → found Equality (ordering_reverse o) ≡ found Equality o
 found_reverse Less = refl
