@@ -1,3 +1,11 @@
 pub mod Values
 pub mod Records
 pub mod PairsVisited
+pub mod Answers
+pub mod Arithmetic
+pub mod Comparisons
+pub mod ValueText
+pub mod Texts
+pub mod Layout
+pub mod Equations
+pub mod NativeTable
