@@ -1,3 +1,4 @@
+pub mod Patterns
 pub mod Values
 pub mod Records
 pub mod PairsVisited
@@ -9,3 +10,8 @@ pub mod Texts
 pub mod Layout
 pub mod Equations
 pub mod NativeTable
+pub mod Matching
+pub mod Substitution
+pub mod Progress
+pub mod Evaluation
+pub mod Examples

@@ -1,7 +1,6 @@
 //! Laws of the definitions. The bodies are empty: what is stated holds of the definitions alone.
 
 ghost use Rattle.std.specs.Prelude.{◌≡◌, ◌≢◌, ℕ, suc, ◌<◌, ◌≤◌, pos, codes, []};
-ghost use Rattle.elm_base.specs.declared.term.TermPattern.{TermPattern};
 ghost use Rattle.elm_meaning.specs.declared.compared.Comparison.{Comparison};
 ghost use Rattle.elm_meaning.specs.declared.compared.Comparison.TheVariants.{Equality, Order};
 ghost use Rattle.elm_meaning.specs.declared.compared.Outcome.TheVariants.{Less, Equal, Greater, Different, FunctionMet, OutOfFuel};
