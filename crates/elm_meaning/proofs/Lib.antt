@@ -1,2 +1,4 @@
 pub mod Pairs
 pub mod Symmetric
+pub mod Fuel
+pub mod Again
