@@ -2,3 +2,4 @@ pub mod Pairs
 pub mod Symmetric
 pub mod Fuel
 pub mod Again
+pub mod More
