@@ -1,0 +1,5 @@
+pub mod Pairs
+pub mod Symmetric
+pub mod Fuel
+pub mod Again
+pub mod More

@@ -1,0 +1,17 @@
+pub mod Patterns
+pub mod Values
+pub mod Records
+pub mod PairsVisited
+pub mod Answers
+pub mod Arithmetic
+pub mod Comparisons
+pub mod ValueText
+pub mod Texts
+pub mod Layout
+pub mod Equations
+pub mod NativeTable
+pub mod Matching
+pub mod Substitution
+pub mod Progress
+pub mod Evaluation
+pub mod Examples
