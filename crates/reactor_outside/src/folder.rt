@@ -1,4 +1,5 @@
 ghost use Rattle.std.specs.Prelude.{◌≡◌, ◌⊎◌, ◌≤◌, None, length, IfOk, IfErr};
+ghost use Rattle.reactor_outside.specs.Shelf.{CountsCall};
 ghost use Rattle.reactor_outside.specs.declared.shelf.ShelfRefusal.TheVariants.{Failed, NoMemory};
 
 use crate::shelf::{Shelf, ShelfRefusal};
@@ -16,8 +17,10 @@ pub struct FolderShelf<R> {
 }
 
 impl<R: Files> FolderShelf<R> {
-    /// The shelf over the files that this runtime reaches.
-    pub fn new(runtime: R) -> FolderShelf<R> {
+    /// The shelf over the files that this runtime reaches. None of its calls has failed.
+    pub fn new(runtime: R) -> FolderShelf<R>
+        ensures { result.faults ≡ 0 }
+    {
         FolderShelf { runtime, faults: 0 }
     }
 }
@@ -87,7 +90,11 @@ impl<R: Files> Shelf for FolderShelf<R> {
 
     ghost files = { λ _. None };
 
-    fn read(&mut self, alloc: Global, name: &str, limit: usize) -> Result<Vec<u8>, ShelfRefusal> {
+    fn read(&mut self, alloc: Global, name: &str, limit: usize) -> Result<Vec<u8>, ShelfRefusal>
+        ensures count { CountsCall self.old.faults self.new.faults result }
+        // Though it tells no file, it keeps to the limit.
+        ensures within { IfOk result (λ bytes. length bytes.items ≤ limit) }
+    {
         match read_file(alloc, &self.runtime, name, limit) {
             Ok(bytes) => Ok(bytes),
             Err(ShelfRefusal::Failed) => {
@@ -98,7 +105,11 @@ impl<R: Files> Shelf for FolderShelf<R> {
         }
     }
 
-    fn write(&mut self, name: &str, bytes: &[u8]) -> Result<(), ShelfRefusal> {
+    fn write(&mut self, name: &str, bytes: &[u8]) -> Result<(), ShelfRefusal>
+        ensures count { CountsCall self.old.faults self.new.faults result }
+        // A write is refused for no other reason.
+        ensures refused { IfErr result (λ refusal. (refusal ≡ Failed) ⊎ (refusal ≡ NoMemory)) }
+    {
         match write_file(&self.runtime, name, bytes) {
             Ok(()) => Ok(()),
             Err(ShelfRefusal::Failed) => {
