@@ -305,7 +305,7 @@ fn a_file_that_is_too_large(rt: HostRuntime) -> Result<(), Fail> {
 // The calls are in turn: the first frame is written, and then each line is read and answered.
 fn ends_with(read: usize, write: usize) -> (Status, usize) {
     if write <= read && write <= 4 {
-        (Status::WriteFault, 16 * (write - 1))
+        (Status::WriteFault, 16 * write.saturating_sub(1))
     } else if read <= 4 {
         (Status::ReadFault, 16 * read)
     } else {
