@@ -3,3 +3,4 @@ pub mod Symmetric
 pub mod Fuel
 pub mod Again
 pub mod More
+pub mod Forms

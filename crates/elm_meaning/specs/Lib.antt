@@ -15,3 +15,4 @@ pub mod Substitution
 pub mod Progress
 pub mod Evaluation
 pub mod Examples
+pub mod Terms
