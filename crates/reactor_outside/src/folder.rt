@@ -1,6 +1,5 @@
-ghost use Rattle.std.specs.Prelude.{◌≡◌, ◌⊎◌, ◌≤◌, None, length, IfOk, IfErr};
-ghost use Rattle.reactor_outside.specs.Shelf.{CountsCall};
-ghost use Rattle.reactor_outside.specs.declared.shelf.ShelfRefusal.TheVariants.{Failed, NoMemory};
+ghost use Rattle.std.specs.Prelude.{◌≡◌, ◌≤◌, None, length, IfOk, IfErr};
+ghost use Rattle.reactor_outside.specs.Shelf.{CountsCall, RefusesWrite};
 
 use crate::shelf::{Shelf, ShelfRefusal};
 use std::alloc::Global;
@@ -66,7 +65,7 @@ fn read_file<R: Files>(
 
 // Puts the bytes in the file. That its folder isn't there is a failure.
 fn write_file<R: Files>(runtime: &R, name: &str, bytes: &[u8]) -> Result<(), ShelfRefusal>
-    ensures { IfErr result (λ refusal. (refusal ≡ Failed) ⊎ (refusal ≡ NoMemory)) }
+    ensures { IfErr result RefusesWrite }
 {
     let opened = OpenOptions::new()
         .write(true)
@@ -107,8 +106,7 @@ impl<R: Files> Shelf for FolderShelf<R> {
 
     fn write(&mut self, name: &str, bytes: &[u8]) -> Result<(), ShelfRefusal>
         ensures count { CountsCall self.old.faults self.new.faults result }
-        // A write is refused for no other reason.
-        ensures refused { IfErr result (λ refusal. (refusal ≡ Failed) ⊎ (refusal ≡ NoMemory)) }
+        ensures refused { IfErr result RefusesWrite }
     {
         match write_file(&self.runtime, name, bytes) {
             Ok(()) => Ok(()),

@@ -1,5 +1,5 @@
-ghost use Rattle.std.specs.Prelude.{◌≡◌, ℕ, Option, IfSome};
-ghost use Rattle.reactor_outside.specs.Shelf.{Files, CountsCall, AnswersRead, Writes, BothTold};
+ghost use Rattle.std.specs.Prelude.{◌≡◌, ℕ, Option, IfSome, IfErr};
+ghost use Rattle.reactor_outside.specs.Shelf.{Files, CountsCall, AnswersRead, Writes, RefusesWrite, BothTold};
 
 use std::alloc::Global;
 
@@ -33,5 +33,6 @@ pub trait Shelf {
     fn write(&mut self, name: &str, bytes: &[u8]) -> Result<(), ShelfRefusal>
         ensures count { CountsCall (faults self.old) (faults self.new) result }
         ensures written { BothTold (files self.old) (files self.new)
-            (λ before after. Writes name.now bytes.now before after result) };
+            (λ before after. Writes name.now bytes.now before after result) }
+        ensures refused { IfErr result RefusesWrite };
 }

@@ -1,6 +1,6 @@
-ghost use Rattle.std.specs.Prelude.{◌≡◌, ◌↔◌, ℕ, List, Some, None, IsTrue, OnOk, OnErr, IsErrOf};
+ghost use Rattle.std.specs.Prelude.{◌≡◌, ◌↔◌, ℕ, List, Some, None, IsTrue, OnOk, OnErr, IfErr, IsErrOf};
 ghost use Rattle.std.specs.Option.{option_copied};
-ghost use Rattle.reactor_outside.specs.Shelf.{SameElsewhere, AnswersRead, BothTold, CountsCall, Writes};
+ghost use Rattle.reactor_outside.specs.Shelf.{SameElsewhere, AnswersRead, BothTold, CountsCall, RefusesWrite, Writes};
 ghost use Rattle.reactor_outside.specs.Table.{files_in};
 ghost use Rattle.reactor_outside.specs.Calls.{next_fails, after_call};
 
@@ -127,6 +127,7 @@ impl Shelf for MemShelf {
         ensures count { CountsCall self.old.calls.failed self.new.calls.failed result }
         ensures written { BothTold (Some (files_in self.old.table)) (Some (files_in self.new.table))
             (λ before after. Writes name.now bytes.now before after result) }
+        ensures refused { IfErr result RefusesWrite }
         ensures fails { IsTrue (next_fails self.old.calls) ↔ IsErrOf result ShelfRefusal.Failed }
         ensures calls { self.new.calls ≡ after_call (next_fails self.old.calls) self.old.calls }
     {
