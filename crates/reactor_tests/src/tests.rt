@@ -181,6 +181,18 @@ fn long_lines_and_names(rt: HostRuntime) -> Result<(), Fail> {
 }
 
 #[test]
+fn a_line_that_is_no_text(rt: HostRuntime) -> Result<(), Fail> {
+    let script = b"input p \xff\ninput p 3\n";
+    let wanted = b"at 0 of 0\n| 0\n.\nrefused Unsupported\nat 1 of 1\n| 3\n.\n".as_slice();
+    for size in [1, 3, 4096] {
+        let (status, written) = run_first(rt.alloc(), FIRST, script, size, &NOTHING)?;
+        assert_eq!(rt; written.as_slice(), wanted, "{size}");
+        assert_eq!(rt; status, Status::Done, "{size}");
+    }
+    Ok(())
+}
+
+#[test]
 fn faults_of_projects(rt: HostRuntime) -> Result<(), Fail> {
     let rows = [
         ("", "Main 0 Unsupported -"),
