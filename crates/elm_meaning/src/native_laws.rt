@@ -1,7 +1,7 @@
 //! What natives reply, on worked examples. The bodies are empty: what is stated holds of the definitions.
 
 ghost use Rattle.std.specs.Prelude.{◌≡◌, Some, true, false, pos, negsuc, codes, [], ◌∷◌, length};
-ghost use Rattle.elm_base.specs.declared.native.TheConstants.{ADD, DIVIDE, MODULO, REMAINDER, NEGATE, EQUAL, NOT_EQUAL, LESS, GREATER, AT_MOST, AT_LEAST, COMPARE, JOIN, TO_STRING, CHAR_TO_CODE, CHAR_FROM_CODE, STRING_LENGTH, STRING_REVERSE, STRING_TO_LIST, STRING_FROM_LIST, STRING_TO_INT, WATCH, LOG, CRASH, MAP, MAP5, ASYNC, TEXT, EMPTY, SPACER, FLOW, UP, BOTTOM_RIGHT, CONTAINER, WIDTH_OF, HEIGHT_OF, NATIVES};
+ghost use Rattle.elm_base.specs.declared.native.TheConstants.{ADD, DIVIDE, MODULO, REMAINDER, NEGATE, EQUAL, NOT_EQUAL, LESS, GREATER, AT_MOST, AT_LEAST, COMPARE, JOIN, TO_STRING, CHAR_TO_CODE, CHAR_FROM_CODE, STRING_LENGTH, STRING_REVERSE, STRING_TO_LIST, STRING_FROM_LIST, STRING_TO_INT, WATCH, LOG, CRASH, MAP, MAP5, ASYNC, TEXT, EMPTY, SPACER, FLOW, UP, DOWN, LEFT, RIGHT, TOP_LEFT, MIDDLE, MAP3, MAP4, MULTIPLY, BOTTOM_RIGHT, CONTAINER, WIDTH_OF, HEIGHT_OF, NATIVES};
 ghost use Rattle.elm_base.specs.declared.term.NoteKind.TheVariants.{Watch, Log};
 ghost use Rattle.elm_base.specs.declared.term.RunFault.TheVariants.{IntRange, DivideByZero, CharRange, FunctionEquality, ElementTooLarge, Crash};
 ghost use Rattle.elm_meaning.specs.Values.{Value, Function, Number, Character, Text, UnitValue, Nil, Cons, Tuple, Made, Record, Applicable, Element, Signal, NoValues, AndValue, NoFields, AndField};
@@ -16,8 +16,15 @@ pub fn natives_stand_by_number()
     ensures all { length natives ≡ NATIVES }
     ensures value { native_at EMPTY ≡ Some (IsValue (element_of no_cells)) }
     ensures first_name { native_at UP ≡ Some (IsValue (named (codes "up"))) }
+    ensures down { native_at DOWN ≡ Some (IsValue (named (codes "down"))) }
+    ensures left { native_at LEFT ≡ Some (IsValue (named (codes "left"))) }
+    ensures right { native_at RIGHT ≡ Some (IsValue (named (codes "right"))) }
+    ensures top_left { native_at TOP_LEFT ≡ Some (IsValue (named (codes "topLeft"))) }
+    ensures middle { native_at MIDDLE ≡ Some (IsValue (named (codes "middle"))) }
     ensures last_name { native_at BOTTOM_RIGHT ≡ Some (IsValue (named (codes "bottomRight"))) }
     ensures map { native_at MAP ≡ Some (MakesNode 2 signals.map) }
+    ensures three { native_at MAP3 ≡ Some (MakesNode 4 signals.map) }
+    ensures four { native_at MAP4 ≡ Some (MakesNode 5 signals.map) }
     ensures widest_map { native_at MAP5 ≡ Some (MakesNode 6 signals.map) }
     ensures last_signal { native_at ASYNC ≡ Some (MakesNode 1 signals.async) }
 {}
@@ -26,6 +33,7 @@ pub fn natives_stand_by_number()
 pub fn numbers_have_64_bits()
     ensures modulo { reply MODULO (Number (negsuc 0) ∷ Number (pos 4) ∷ []) ≡ Some (free (Gives (Number (pos 3)))) }
     ensures below { reply MODULO (Number (pos 7) ∷ Number (negsuc 3) ∷ []) ≡ Some (free (Gives (Number (negsuc 0)))) }
+    ensures multiply { reply MULTIPLY (Number (negsuc 2) ∷ Number (pos 4) ∷ []) ≡ Some (free (Gives (Number (negsuc 11)))) }
     ensures divide { reply DIVIDE (Number (negsuc 6) ∷ Number (pos 2) ∷ []) ≡ Some (free (Gives (Number (negsuc 2)))) }
     ensures remainder { reply REMAINDER (Number (negsuc 6) ∷ Number (pos 2) ∷ []) ≡ Some (free (Gives (Number (negsuc 0)))) }
     ensures zero { reply REMAINDER (Number (pos 1) ∷ Number (pos 0) ∷ []) ≡ Some (free (Faults DivideByZero)) }
