@@ -16,7 +16,7 @@ use Rattle.reactor_engine.specs.Run.{usage_text, Quiet, Ends, HasProgram, IsRefu
 use Rattle.reactor_engine.proofs.Endings.{told_map}
 use Rattle.reactor_engine.proofs.Projects.{not_program_and_fault}
 
-no_files : Files
+pub no_files : Files
 no_files name = None
 
 -- a count that rose isn't quiet
@@ -42,6 +42,28 @@ shelf_reported project told calls calls_end before after file status rose (inr h
 
 has_program : (project : List ℕ) (told : Option Files) (program : Program) → IfSome told (λ files. Compiles files project (Ok program)) → HasProgram told project
 has_program project told program has = told_map told (λ files. Compiles files project (Ok program)) (λ files. (p : Program) × Compiles files project (Ok p)) (λ files compiles. (program, compiles)) has
+
+-- a script that is served: no other status than that of a failed read comes with a risen count of reads
+pub served_reads : (wanted : List ℕ → List ℕ) (before after : Outside) (status : Status) → Serves wanted before after status → status ≢ ReadFault → after.reads ≡ before.reads
+served_reads wanted before after Done serves other = serves.0
+served_reads wanted before after ReadFault serves other = absurd (other refl)
+served_reads wanted before after WriteFault serves other = serves.0
+served_reads wanted before after ScriptTooLong serves other = serves.0
+served_reads wanted before after NoMemory serves other = serves.0
+served_reads wanted before after Usage serves other = absurd serves
+served_reads wanted before after ProjectRefused serves other = absurd serves
+served_reads wanted before after ShelfFault serves other = absurd serves
+
+-- and so with writes
+pub served_writes : (wanted : List ℕ → List ℕ) (before after : Outside) (status : Status) → Serves wanted before after status → status ≢ WriteFault → after.writes ≡ before.writes
+served_writes wanted before after Done serves other = serves.1
+served_writes wanted before after ReadFault serves other = serves.1
+served_writes wanted before after WriteFault serves other = absurd (other refl)
+served_writes wanted before after ScriptTooLong serves other = serves.1
+served_writes wanted before after NoMemory serves other = serves.1
+served_writes wanted before after Usage serves other = absurd serves
+served_writes wanted before after ProjectRefused serves other = absurd serves
+served_writes wanted before after ShelfFault serves other = absurd serves
 
 served_done : (project : List ℕ) (told : Option Files) (before after : Outside) (program : Program) → IfSome told (λ files. Compiles files project (Ok program)) → ((files : Files) → Serves (λ script. transcript program files script []) before after Done) → IfSome told (λ files. (p : Program) × Compiles files project (Ok p) × IfSome before.left (λ script. after.taken ≡ with_bytes (transcript p files script []) before.taken))
 served_done project None before after program has serves = tt

@@ -52,6 +52,12 @@ pub fn reactor_run<H: Shelf, S: Source, K: Sink, L: Ledger>(
     ensures write_fault { result ≡ Status.WriteFault → Rose (K.faults screen.old) (K.faults screen.new) }
     ensures shelf_fault { result ≡ Status.ShelfFault → Rose (H.faults shelf.old) (H.faults shelf.new) }
 
+    // And no failure is passed over: where another status is answered, the count stands as it did. A shelf's failure
+    // is reported, unless its line can't be made or written.
+    ensures reads_kept { result ≢ Status.ReadFault → S.faults script.new ≡ S.faults script.old }
+    ensures writes_kept { result ≢ Status.WriteFault → K.faults screen.new ≡ K.faults screen.old }
+    ensures shelf_kept { result ≢ Status.ShelfFault → result ≢ Status.WriteFault → result ≢ Status.NoMemory → H.faults shelf.new ≡ H.faults shelf.old }
+
     // A script is too long only where it has more than 2^30 bytes.
     ensures script_too_long { result ≡ Status.ScriptTooLong → IfSome (S.left script.old) (λ text. max_script < length text) }
 
@@ -73,6 +79,9 @@ fn run<H: Shelf, S: Source, K: Sink>(
         (record { reads = S.faults script.old; writes = K.faults screen.old; left = S.left script.old; taken = K.taken screen.old })
         (record { reads = S.faults script.new; writes = K.faults screen.new; left = S.left script.new; taken = K.taken screen.new })
         result }
+    ensures reads_kept { result ≢ Status.ReadFault → S.faults script.new ≡ S.faults script.old }
+    ensures writes_kept { result ≢ Status.WriteFault → K.faults screen.new ≡ K.faults screen.old }
+    ensures shelf_kept { result ≢ Status.ShelfFault → result ≢ Status.WriteFault → result ≢ Status.NoMemory → H.faults shelf.new ≡ H.faults shelf.old }
     ensures files { H.files shelf.new ≡ H.files shelf.old }
 {
     match words.project() {
@@ -83,7 +92,8 @@ fn run<H: Shelf, S: Source, K: Sink>(
 
 /// Writes how the program is called.
 fn show_usage<K: Sink>(screen: &mut K) -> Status
-    ensures { Tells Status.Usage usage_text (K.faults screen.old) (K.faults screen.new) (K.taken screen.old) (K.taken screen.new) result }
+    ensures told { Tells Status.Usage usage_text (K.faults screen.old) (K.faults screen.new) (K.taken screen.old) (K.taken screen.new) result }
+    ensures kept { result ≢ Status.WriteFault → K.faults screen.new ≡ K.faults screen.old }
 {
     match put(screen, USAGE) {
         Ok(()) => Status::Usage,
@@ -103,6 +113,9 @@ fn run_project<H: Shelf, S: Source, K: Sink>(
         (record { reads = S.faults script.old; writes = K.faults screen.old; left = S.left script.old; taken = K.taken screen.old })
         (record { reads = S.faults script.new; writes = K.faults screen.new; left = S.left script.new; taken = K.taken screen.new })
         result }
+    ensures reads_kept { result ≢ Status.ReadFault → S.faults script.new ≡ S.faults script.old }
+    ensures writes_kept { result ≢ Status.WriteFault → K.faults screen.new ≡ K.faults screen.old }
+    ensures shelf_kept { result ≢ Status.ShelfFault → result ≢ Status.WriteFault → result ≢ Status.NoMemory → H.faults shelf.new ≡ H.faults shelf.old }
     ensures files { H.files shelf.new ≡ H.files shelf.old }
 {
     match load(alloc, shelf, project) {
@@ -115,7 +128,8 @@ fn run_project<H: Shelf, S: Source, K: Sink>(
 
 /// Writes which fault the project has.
 fn refuse<K: Sink>(alloc: Global, fault: &ProjectFault, screen: &mut K) -> Status
-    ensures { Reports Status.ProjectRefused (fault_line fault.now) (K.faults screen.old) (K.faults screen.new) (K.taken screen.old) (K.taken screen.new) result }
+    ensures told { Reports Status.ProjectRefused (fault_line fault.now) (K.faults screen.old) (K.faults screen.new) (K.taken screen.old) (K.taken screen.new) result }
+    ensures kept { result ≢ Status.WriteFault → K.faults screen.new ≡ K.faults screen.old }
 {
     let mut out = Vec::new(alloc);
     match push_fault(fault, &mut out) {
@@ -126,7 +140,8 @@ fn refuse<K: Sink>(alloc: Global, fault: &ProjectFault, screen: &mut K) -> Statu
 
 /// Writes which file could not be read.
 fn report_shelf<K: Sink>(alloc: Global, file: &Name, screen: &mut K) -> Status
-    ensures { Reports Status.ShelfFault (shelf_line file.now) (K.faults screen.old) (K.faults screen.new) (K.taken screen.old) (K.taken screen.new) result }
+    ensures told { Reports Status.ShelfFault (shelf_line file.now) (K.faults screen.old) (K.faults screen.new) (K.taken screen.old) (K.taken screen.new) result }
+    ensures kept { result ≢ Status.WriteFault → K.faults screen.new ≡ K.faults screen.old }
 {
     let mut out = Vec::new(alloc);
     match push_shelf_failure(file, &mut out) {
@@ -137,7 +152,8 @@ fn report_shelf<K: Sink>(alloc: Global, file: &Name, screen: &mut K) -> Status
 
 /// Writes a text that ends the run, and gives this status where it was written.
 fn report<K: Sink>(text: &[u8], status: Status, screen: &mut K) -> Status
-    ensures { Tells status text.now (K.faults screen.old) (K.faults screen.new) (K.taken screen.old) (K.taken screen.new) result }
+    ensures told { Tells status text.now (K.faults screen.old) (K.faults screen.new) (K.taken screen.old) (K.taken screen.new) result }
+    ensures kept { result ≢ Status.WriteFault → K.faults screen.new ≡ K.faults screen.old }
 {
     match put(screen, text) {
         Ok(()) => status,
