@@ -1,10 +1,4 @@
-pub mod Laws
-pub mod Turns
-pub mod Depth
-pub mod TypeReadings
-pub mod NestingLaws
-pub mod Shallow
-pub mod TypeLaws
-pub mod SpellingLaws
-pub mod PatternReadings
-pub mod PatternLaws
+pub mod GuardLaws
+pub mod ExprReadings
+pub mod ExprNestingLaws
+pub mod ExprLaws

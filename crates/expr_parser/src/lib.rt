@@ -1,16 +1,4 @@
-//! Lists of tokens as trees: types and patterns, exactly the one tree that derives.
+//! Lists of tokens as trees: expressions, exactly the one tree that derives, and beside them types and patterns.
 #![tactic(auto)]
 
-mod cursor;
-mod nesting;
-mod patterns;
-mod spelling;
-mod terminal;
-mod types;
-
-pub use cursor::NoTree;
-pub use patterns::{one_pattern, pattern};
-pub use types::{one_type, type_text};
-
-#[cfg(test)]
-mod tests;
+pub use pattern_parser::{NoTree, one_pattern, one_type, pattern, type_text};
