@@ -1,3 +1,4 @@
 pub mod Expressions
 pub mod ExpressionNesting
 pub mod ExprReader
+pub mod ExprCalls

@@ -1,4 +1,6 @@
 //! Lists of tokens as trees: expressions, exactly the one tree that derives, and beside them types and patterns.
 #![tactic(auto)]
 
+mod exprs;
+
 pub use pattern_parser::{NoTree, one_pattern, one_type, pattern, type_text};
