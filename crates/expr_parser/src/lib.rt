@@ -1,6 +1,9 @@
 //! Lists of tokens as trees: expressions, exactly the one tree that derives, and beside them types and patterns.
 #![tactic(auto)]
 
+mod atoms;
+mod begins;
 mod exprs;
+mod operators;
 
 pub use pattern_parser::{NoTree, one_pattern, one_type, pattern, type_text};
