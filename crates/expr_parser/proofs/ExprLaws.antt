@@ -318,8 +318,10 @@ module _ (depth limit : ℕ) (W W' I I' : Rule Expr) (s : Shallow W W' (λ x. ex
   case_of : Shallow (g.case_of depth W I) (g.case_of limit W' I') Within
   case_of =
       by {C = Within} _ (when {B = λ x. Below x.1.0 × Each BranchBelow x.1.1}
-      (λ x h. let e = of_case x.0 x.1.0 x.1.1 in (omega (arith, e, h),
-      most_each (λ (x : Pattern × Expr). max (pattern_nesting x.0) (expr_nesting x.1)) x.1.1 limit (omega (arith, e, h))))
+      (λ x h. let e = of_case x.0 x.1.0 x.1.1 in (
+        omega (arith, e, h),
+        most_each (λ (x : Pattern × Expr). max (pattern_nesting x.0) (expr_nesting x.1)) x.1.1 limit (omega (arith, e, h)),
+      ))
       (at (after (rule.mark k.Case) (seq s (after (rule.mark k.Of) (block branch))))))
 
   last_form : Shallow (g.last_form depth W I) (g.last_form limit W' I') Within
