@@ -10,13 +10,10 @@ use Rattle.elm_base.specs.declared.tree.Expr.TheVariants as e
 use Rattle.elm_base.specs.declared.tree.Declaration.{Declaration}
 use Rattle.elm_base.specs.declared.tree.Declaration.TheVariants as d
 use Rattle.elm_base.specs.declared.tree.Declaration.TheOpen as tree
-use Rattle.elm_base.specs.declared.tree.Declaration.TheFolds.{fold-Set, fold-roll-Expr, fold-roll-Declaration, fold-roll-Set}
+use Rattle.elm_base.specs.declared.tree.Declaration.TheFolds.{fold-roll-Expr, fold-roll-Declaration, fold-roll-Set}
 use Rattle.pattern_parser.specs.Nesting.{most, around, type_nesting, pattern_nesting}
-use Rattle.expr_parser.specs.ExpressionNesting.{expr_step, declaration_step, expr_nesting, declaration_nesting}
+use Rattle.expr_parser.specs.ExpressionNesting.{expr_step, declaration_step, expr_nesting, declaration_nesting, set_nesting, guards_layer, guards_of, branches_layer, branches_of}
 use Rattle.pattern_parser.proofs.NestingLaws.{map_twice}
-
-abbrev pub set_nesting : Set → ℕ
-set_nesting = fold-Set ℕ ℕ ℕ declaration_step expr_step (λ set. set.value)
 
 pub of_chain : (at : At) (xs : List Expr) (operators : List Operator) → expr_nesting (e.Chain at xs operators) ≡ length operators + most (map expr_nesting xs)
 of_chain at xs operators =
@@ -104,3 +101,12 @@ of_pattern_definition at p x =
 
 pub of_set : (at : At) (label : List ℕ) (x : Expr) → set_nesting (roll-Set (record { at = at; label = label; value = x })) ≡ expr_nesting x
 of_set at label x = fold-roll-Set ℕ ℕ ℕ declaration_step expr_step (λ set. set.value) (record { at = at; label = label; value = x })
+
+pub of_field : (set : Set) → set_nesting set ≡ expr_nesting set.value
+of_field set = of_set set.at set.label set.value
+
+pub guards_there : (at : At) (branches : List (Expr × Expr)) → guards_of (e.Guards at branches) ≡ branches
+guards_there at branches = ap guards_layer (e.outs-Guards at branches)
+
+pub branches_there : (at : At) (x : Expr) (branches : List (Pattern × Expr)) → branches_of (e.Case at x branches) ≡ branches
+branches_there at x branches = ap branches_layer (e.outs-Case at x branches)

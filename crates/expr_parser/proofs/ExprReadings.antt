@@ -302,7 +302,7 @@ module _ (depth : ℕ) {W I : Rule Expr} {w i : Parser Expr} (r : Reading W w fa
   -- ---- the forms that take all behind them
 
   pub lambda_reads : Reading (g.lambda depth W I) (m.lambda depth w i) false (k.Backslash ∷ []) goes_on
-  unfolding m.lambda same_terminal
+  unfolding m.lambda m.some_parameters same_terminal
   lambda_reads =
       within (by _ (at (by _ (seq (mark k.Backslash) (seq (by _ (seq parameter_reads parameters_read refl)) (by _ (seq (mark k.Arrow) r refl)) refl) refl)))) refl refl
 
@@ -316,7 +316,7 @@ module _ (depth : ℕ) {W I : Rule Expr} {w i : Parser Expr} (r : Reading W w fa
       within (seq (by _ (seq (mark k.Bar) r refl)) (by _ (seq (mark k.Arrow) (ends.only (λ x. not (ends_in_guards x)) r closed) refl)) refl) refl refl
 
   pub multi_way_reads : Reading (g.multi_way depth W I) (m.multi_way depth w i) false (k.Bar ∷ []) goes_on
-  unfolding m.multi_way same_terminal
+  unfolding m.multi_way m.guards same_terminal
   multi_way_reads = within (by _ (by _ (seq guard_reads (many guard_reads refl) refl))) refl refl
 
   pub conditional_reads : Reading (g.conditional depth W I) (m.conditional depth w i) false (k.If ∷ []) goes_on
@@ -387,7 +387,7 @@ module _ (depth : ℕ) {W I : Rule Expr} {w i : Parser Expr} (r : Reading W w fa
   -- ---- with fewer terminals that go on, where the expression doesn't end in a multi-way `if`
 
   lambda_ends : Ends (g.lambda depth W I) (m.lambda depth w i) Closed closed_goes_on
-  unfolding m.lambda same_terminal
+  unfolding m.lambda m.some_parameters same_terminal
   lambda_ends =
       ends.by {C = Closed} _ (ends.when {B = λ x. Closed x.1.1} (λ x h. lambda_closed x.0 x.1.0 x.1.1 h)
       (ends.at {B = λ x. Closed x.1} (ends.after {C = λ x. Closed x.1} k.Backslash (seq (by _ (seq parameter_reads parameters_read refl)) (behind k.Arrow r) refl)

@@ -5,3 +5,9 @@ pub mod ExprLaws
 pub mod Takes
 pub mod Commas
 pub mod Closing
+pub mod LinkTurns
+pub mod MostLaws
+pub mod LastLaws
+pub mod FormTakes
+pub mod BlockTurns
+pub mod LinkParts

@@ -198,8 +198,11 @@ module _ (depth : ℕ) (whole inner_atom : Parser Expr) where
   unfoldable pub operand : Parser Expr
   operand = choose (k.Minus ∷ []) negation application
 
+  unfoldable pub some_parameters : Parser (List Pattern)
+  some_parameters = (λ x. x.0 ∷ x.1) <$> parameter ⊗ parameters
+
   unfoldable pub lambda : Parser Expr
-  lambda = (λ x. e.Lambda x.0 x.1.0 x.1.1) <$> at (mark k.Backslash ▷ ((λ x. x.0 ∷ x.1) <$> parameter ⊗ parameters) ⊗ mark k.Arrow ▷ whole)
+  lambda = (λ x. e.Lambda x.0 x.1.0 x.1.1) <$> at (mark k.Backslash ▷ some_parameters ⊗ mark k.Arrow ▷ whole)
 
   unfoldable pub two_way : Parser (At → Expr)
   two_way = (λ x at. e.If at x.0 x.1.0 x.1.1) <$> whole ⊗ (mark k.Then ▷ whole) ⊗ mark k.Else ▷ whole
@@ -207,8 +210,11 @@ module _ (depth : ℕ) (whole inner_atom : Parser Expr) where
   unfoldable pub guard : Parser (Expr × Expr)
   guard = (mark k.Bar ▷ whole) ⊗ mark k.Arrow ▷ only (λ x. not (ends_in_guards x)) whole
 
+  unfoldable pub guards : Parser (List (Expr × Expr))
+  guards = (λ x. x.0 ∷ x.1) <$> guard ⊗ many (k.Bar ∷ []) guard
+
   unfoldable pub multi_way : Parser (At → Expr)
-  multi_way = (λ branches at. e.Guards at branches) <$> (λ x. x.0 ∷ x.1) <$> guard ⊗ many (k.Bar ∷ []) guard
+  multi_way = (λ branches at. e.Guards at branches) <$> guards
 
   unfoldable pub conditional : Parser Expr
   conditional = (λ x. x.1 x.0) <$> at (mark k.If ▷ choose expressions_begin two_way multi_way)

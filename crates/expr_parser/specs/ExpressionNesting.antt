@@ -1,9 +1,11 @@
 -- How deep expressions and declarations nest.
-use Rattle.std.specs.Prelude.{ℕ, ◌+◌, max, [], ◌∷◌, map, length}
-use Rattle.elm_base.specs.declared.tree.Expr.{Expr}
+use Rattle.std.specs.Prelude.{ℕ, ◌+◌, max, List, [], ◌∷◌, map, length}
+use Rattle.elm_base.specs.declared.tree.Pattern.{Pattern}
+use Rattle.elm_base.specs.declared.tree.Set.{Set}
+use Rattle.elm_base.specs.declared.tree.Expr.{Expr, out-Expr}
 use Rattle.elm_base.specs.declared.tree.Declaration.{Declaration}
 use Rattle.elm_base.specs.declared.tree.Declaration.TheOpen as tree
-use Rattle.elm_base.specs.declared.tree.Declaration.TheFolds.{fold-Expr, fold-Declaration}
+use Rattle.elm_base.specs.declared.tree.Declaration.TheFolds.{fold-Expr, fold-Declaration, fold-Set}
 use Rattle.pattern_parser.specs.Nesting.{most, around, type_nesting, pattern_nesting}
 
 -- Of an expression, from the nestings of its parts. The parts of a chain count deeper by the number of its operators, those of a call by
@@ -47,3 +49,25 @@ expr_nesting = fold-Expr ℕ ℕ ℕ declaration_step expr_step (λ set. set.val
 
 abbrev pub declaration_nesting : Declaration → ℕ
 declaration_nesting = fold-Declaration ℕ ℕ ℕ declaration_step expr_step (λ set. set.value)
+
+-- of a record's field, the nesting of the expression that it takes
+abbrev pub set_nesting : Set → ℕ
+set_nesting = fold-Set ℕ ℕ ℕ declaration_step expr_step (λ set. set.value)
+
+-- ---- the branches of an expression
+
+abbrev pub guards_layer : {A B C : Type 0} → tree.Expr-F A B C → List (B × B)
+guards_layer (tree.Guards at branches) = branches
+guards_layer _ = []
+
+-- of a multi-way `if`, each a condition and what it chooses
+abbrev pub guards_of : Expr → List (Expr × Expr)
+guards_of x = guards_layer (out-Expr x)
+
+abbrev pub branches_layer : {A B C : Type 0} → tree.Expr-F A B C → List (Pattern × B)
+branches_layer (tree.Case at scrutinee branches) = branches
+branches_layer _ = []
+
+-- of a `case`, each a pattern and what it chooses
+abbrev pub branches_of : Expr → List (Pattern × Expr)
+branches_of x = branches_layer (out-Expr x)

@@ -3,3 +3,4 @@ pub mod ExpressionNesting
 pub mod ExprReader
 pub mod ExprCalls
 pub mod Places
+pub mod Chains

@@ -4,10 +4,15 @@
 mod applications;
 mod atoms;
 mod begins;
+mod blocks;
 mod brackets;
+mod chains;
+mod expression_nesting;
 mod exprs;
+mod forms;
 mod lists;
 mod operators;
 mod records;
+mod shapes;
 
 pub use pattern_parser::{NoTree, one_pattern, one_type, pattern, type_text};

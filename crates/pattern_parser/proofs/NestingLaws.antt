@@ -68,7 +68,7 @@ of_pattern_named at x name = ap pattern_nesting (sym (p.rolls-Named at x name)) 
 
 -- ---- parts and the whole
 
-most_last : (ns : List ℕ) (n limit : ℕ) → most ns ≤ limit → n ≤ limit → most (ns ++ n ∷ []) ≤ limit
+pub most_last : (ns : List ℕ) (n limit : ℕ) → most ns ≤ limit → n ≤ limit → most (ns ++ n ∷ []) ≤ limit
 most_last [] n limit h k = omega arith
 most_last (m ∷ ns) n limit h k = let more = most_last ns n limit (omega arith) k in omega arith
 
@@ -81,7 +81,7 @@ around_last (m ∷ ns) n limit h k =
     omega arith
 
 module _ {A : Type 0} (f : A → ℕ) where
-  most_at : (xs : List A) (i : ℕ) (d : A) → i < length xs → f (get_or xs i d) ≤ most (map f xs)
+  pub most_at : (xs : List A) (i : ℕ) (d : A) → i < length xs → f (get_or xs i d) ≤ most (map f xs)
   most_at [] i d h = absurd (omega arith)
   most_at (x ∷ xs) zero d h = omega arith
   most_at (x ∷ xs) (suc i) d h = let less = most_at xs i d (omega arith) in omega arith

@@ -135,6 +135,10 @@ extent column (t ∷ ts) = suc (right column ts)
 unfoldable pub item : {A : Type 0} → ℕ → Parser A → Parser A
 item column p ts = rejoined (drop (extent column ts) ts) (p (take (extent column ts) ts))
 
+abbrev pub stands_in : ℕ → List Lexeme → Bool
+stands_in column [] = false
+stands_in column (t ∷ ts) = t.at.column == column
+
 abbrev pub begins : ℕ → List Terminal → List Lexeme → Bool
 begins column set [] = false
 begins column set (t ∷ ts) = (t.at.column == column) && starts set (t ∷ ts)

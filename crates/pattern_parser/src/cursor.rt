@@ -223,13 +223,13 @@ impl<'a> Cursor<'a> {
         self.tokens.len()
     }
 
-    /// The terminal of the next token, if one is left, which begins an item of a block in this column.
-    pub fn begins(&self, column: u32, symbol: Terminal) -> bool
-        ensures { result ≡ spec.begins column (symbol ∷ []) self.now }
+    /// Whether the next token stands in this column.
+    pub fn stands_in(&self, column: u32) -> bool
+        ensures { result ≡ spec.stands_in column self.now }
     {
         match self.tokens {
             [] => false,
-            [token, ..] => token.column == column && same_terminal(terminal_of(token), symbol),
+            [token, ..] => token.column == column,
         }
     }
 

@@ -83,14 +83,15 @@ pub fn pattern_nests_within(tree: &Pattern, limit: u32) -> bool
 
 /// Whether the pattern nests less deep.
 #[cycle(patterns)]
-fn pattern_nests_below(tree: &Pattern, limit: u32) -> bool
+pub fn pattern_nests_below(tree: &Pattern, limit: u32) -> bool
     ensures { IsTrue result ↔ (pattern_nesting tree.now < limit) }
 {
     limit > 0 && pattern_nests_within(tree, limit - 1)
 }
 
+/// Whether the patterns nest less deep, or there are none.
 #[cycle(patterns)]
-fn patterns_nest_below(trees: &[Pattern], limit: u32) -> bool
+pub fn patterns_nest_below(trees: &[Pattern], limit: u32) -> bool
     ensures { IsTrue result ↔ (around (map pattern_nesting trees.now) ≤ limit) }
 {
     for tree in trees {
