@@ -9,7 +9,7 @@ use Rattle.elm_base.specs.declared.tree.Expr.{Expr}
 use Rattle.elm_base.specs.declared.tree.Expr.TheVariants as e
 use Rattle.pattern_parser.specs.declared.cursor.NoTree.{NoTree}
 use Rattle.pattern_parser.specs.Terminals.{Lexeme}
-use Rattle.pattern_parser.specs.Reader.{Parser, Outcome, here, at, ◌⊗◌, ◌<$>◌}
+use Rattle.pattern_parser.specs.Reader.{Parser, Outcome, and_then, here, at, ◌⊗◌, ◌<$>◌}
 use Rattle.pattern_parser.proofs.Laws.{then_ok, ok_same}
 use Rattle.expr_parser.specs.Chains.{apart, separately}
 use Rattle.expr_parser.specs.Expressions.{chained}
@@ -41,6 +41,21 @@ chain_ok p q ts us rest place first tree operators operands h e l made =
     let parts : apart links.0.0 ≡ (operators, operands) = ap (λ z. z.0) is in
     let end : links.0.1 ≡ rest = ap (λ z. z.1) is in
     rw (h, e, links.1, end) (ap (λ z. Some (z, rest)) (sym (made links.0.0 parts)))
+
+pub chain_err_at : (p : Parser Expr) (q : Parser (List (Operator × Expr))) (ts : List Lexeme) → here ts ≡ None → ◌<$>◌ chained (at (◌⊗◌ p q)) ts ≡ None
+chain_err_at p q ts h = rw h
+
+pub chain_err_first : (p : Parser Expr) (q : Parser (List (Operator × Expr))) (ts : List Lexeme) (place : At) → here ts ≡ Some (place, ts) → p ts ≡ None
+    → ◌<$>◌ chained (at (◌⊗◌ p q)) ts ≡ None
+chain_err_first p q ts place h e = rw (h, e)
+
+none_together : (r : Outcome (List (Operator × Expr))) → and_then r (λ x us. Some (apart x, us)) ≡ None → r ≡ None
+none_together None h = refl
+none_together (Some x) h = cc
+
+pub chain_err_links : (p : Parser Expr) (q : Parser (List (Operator × Expr))) (ts us : List Lexeme) (place : At) (first : Expr) → here ts ≡ Some (place, ts)
+    → p ts ≡ Some (first, us) → separately q us ≡ None → ◌<$>◌ chained (at (◌⊗◌ p q)) ts ≡ None
+chain_err_links p q ts us place first h e l = rw (h, e, none_together (q us) l)
 
 pub no_links : (links : List (Operator × Expr)) (operands : List Expr) (place : At) (first : Expr) → apart links ≡ ([], operands) → chained (place, (first, links)) ≡ first
 no_links [] operands place first h = refl

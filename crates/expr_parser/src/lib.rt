@@ -6,6 +6,7 @@ mod atoms;
 mod begins;
 mod blocks;
 mod brackets;
+mod calls;
 mod chains;
 mod expression_nesting;
 mod exprs;
@@ -15,4 +16,5 @@ mod operators;
 mod records;
 mod shapes;
 
+pub use calls::{expr, one_expr};
 pub use pattern_parser::{NoTree, one_pattern, one_type, pattern, type_text};

@@ -11,6 +11,6 @@ pub returns-then-alone : goal.returns-then-alone
 unfolding tree_at
 returns-then-alone t c = rw (c.if-alone.true, deeper (λ n. tree_at true n c.args.tokens.now) c.args.depth (omega arith)) c.atom.ensures
 
-pub returns : goal.returns
+pub returns-else-alone : goal.returns-else-alone
 unfolding tree_at
-returns t c = rw (c.if-alone.false, deeper (λ n. tree_at false n c.args.tokens.now) c.args.depth (omega arith)) c.level.ensures
+returns-else-alone t c = rw (c.if-alone.false, deeper (λ n. tree_at false n c.args.tokens.now) c.args.depth (omega arith)) c.level.ensures
