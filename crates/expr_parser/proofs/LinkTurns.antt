@@ -76,6 +76,7 @@ module _ {A B : Type 0} (between last : List Terminal) (o : Parser A) (p q : Par
         next ih a us e false (Some x) w =
             let less = links_smaller a x.0 ts us x.1 e w in
             ap (λ z. and_then z (λ rest ws. Some ((a, x.0) ∷ rest, ws))) (ih x.1 (omega arith) (omega arith))
+
         go : ((us : List Lexeme) → length us ≤ n → length us ≤ k → links between last o p q n us ≡ links between last o p q k us) → (b : Bool) (r : Outcome A) → o ts ≡ r
             → (if b then and_then r (λ a us. behind n a (starts last us) us) else Some ([], ts)) ≡ (if b then and_then r (λ a us. behind k a (starts last us) us) else Some ([], ts))
         go ih false r e = refl

@@ -51,7 +51,12 @@ impl<F: Fn(Global, bool, usize, &mut Cursor<'_>) -> Result<Expr, Halt<NoTree>>> 
 
     /// Behind a name: the type that it is to have.
     #[tactic(auto, unfolding(crate::specs::ExprReader::annotated))]
-    fn annotated(&self, at: At, name: Name, tokens: &mut Cursor<'_>) -> Result<Declaration, Halt<NoTree>>
+    fn annotated(
+        &self,
+        at: At,
+        name: Name,
+        tokens: &mut Cursor<'_>,
+    ) -> Result<Declaration, Halt<NoTree>>
         requires { ReadsExprs self.now.depth (F.pre self.now.below) (F.post self.now.below) }
         ensures { Reads (placed_round at name (spec.annotated self.now.depth (spec.tree_at false self.now.depth) (spec.tree_at true self.now.depth)) tokens.old) result tokens.new }
     {
@@ -62,7 +67,12 @@ impl<F: Fn(Global, bool, usize, &mut Cursor<'_>) -> Result<Expr, Halt<NoTree>>> 
 
     /// Behind a name: the parameters and the body of its definition.
     #[tactic(auto, unfolding(crate::specs::ExprReader::defined))]
-    fn defined(&self, at: At, name: Name, tokens: &mut Cursor<'_>) -> Result<Declaration, Halt<NoTree>>
+    fn defined(
+        &self,
+        at: At,
+        name: Name,
+        tokens: &mut Cursor<'_>,
+    ) -> Result<Declaration, Halt<NoTree>>
         requires { ReadsExprs self.now.depth (F.pre self.now.below) (F.post self.now.below) }
         ensures { Reads (placed_round at name (spec.defined self.now.depth (spec.tree_at false self.now.depth) (spec.tree_at true self.now.depth)) tokens.old) result tokens.new }
     {
@@ -116,7 +126,11 @@ impl<F: Fn(Global, bool, usize, &mut Cursor<'_>) -> Result<Expr, Halt<NoTree>>> 
     }
 
     /// A definition whose tokens behind the first stand to the right of the column.
-    fn definition_item(&self, column: u32, tokens: &mut Cursor<'_>) -> Result<Declaration, Halt<NoTree>>
+    fn definition_item(
+        &self,
+        column: u32,
+        tokens: &mut Cursor<'_>,
+    ) -> Result<Declaration, Halt<NoTree>>
         requires { ReadsExprs self.now.depth (F.pre self.now.below) (F.post self.now.below) }
         ensures { Reads (item column (spec.definition self.now.depth (spec.tree_at false self.now.depth) (spec.tree_at true self.now.depth)) tokens.old) result tokens.new }
     {
@@ -183,7 +197,11 @@ impl<F: Fn(Global, bool, usize, &mut Cursor<'_>) -> Result<Expr, Halt<NoTree>>> 
     }
 
     /// A branch whose tokens behind the first stand to the right of the column.
-    fn branch_item(&self, column: u32, tokens: &mut Cursor<'_>) -> Result<(Pattern, Expr), Halt<NoTree>>
+    fn branch_item(
+        &self,
+        column: u32,
+        tokens: &mut Cursor<'_>,
+    ) -> Result<(Pattern, Expr), Halt<NoTree>>
         requires { ReadsExprs self.now.depth (F.pre self.now.below) (F.post self.now.below) }
         ensures { Reads (item column (spec.branch self.now.depth (spec.tree_at false self.now.depth) (spec.tree_at true self.now.depth)) tokens.old) result tokens.new }
     {

@@ -82,10 +82,7 @@ impl<F: Fn(Global, bool, usize, &mut Cursor<'_>) -> Result<Expr, Halt<NoTree>>> 
     }
 
     /// The operators and operands behind the first operand. A form that takes all that stands behind it is the last of them.
-    fn links(
-        &self,
-        tokens: &mut Cursor<'_>,
-    ) -> Result<(Items<Operator>, Items<Expr>), Halt<NoTree>>
+    fn links(&self, tokens: &mut Cursor<'_>) -> Result<(Items<Operator>, Items<Expr>), Halt<NoTree>>
         requires { ReadsExprs self.now.depth (F.pre self.now.below) (F.post self.now.below) }
         ensures { Reads (separately (spec.links self.now.depth (spec.tree_at false self.now.depth) (spec.tree_at true self.now.depth)) tokens.old) result tokens.new }
     {

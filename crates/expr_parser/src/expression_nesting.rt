@@ -79,7 +79,10 @@ pub fn expr_nests_within(tree: &Expr, limit: u32) -> bool
             expr_nests_below(low.get(), limit) && expr_nests_below(high.get(), limit)
         }
         Expr::If {
-            condition, yes, no, ..
+            condition,
+            yes,
+            no,
+            ..
         } => {
             expr_nests_below(condition.get(), limit)
                 && expr_nests_below(yes.get(), limit)
@@ -102,7 +105,9 @@ pub fn expr_nests_within(tree: &Expr, limit: u32) -> bool
         }
         Expr::Guards { .. } => guards_nest_below(tree, limit),
         Expr::Let {
-            definitions, body, ..
+            definitions,
+            body,
+            ..
         } => {
             expr_nests_below(body.get(), limit)
                 && declarations_nest_below(definitions.as_slice(), limit)

@@ -24,7 +24,11 @@ impl<F: Fn(Global, bool, usize, &mut Cursor<'_>) -> Result<Expr, Halt<NoTree>>> 
     }
 
     /// Those that were found, and the parameters behind them.
-    fn parameters_behind(&self, mut found: Items<Pattern>, tokens: &mut Cursor<'_>) -> Result<Items<Pattern>, Halt<NoTree>>
+    fn parameters_behind(
+        &self,
+        mut found: Items<Pattern>,
+        tokens: &mut Cursor<'_>,
+    ) -> Result<Items<Pattern>, Halt<NoTree>>
         requires { ReadsExprs self.now.depth (F.pre self.now.below) (F.post self.now.below) }
         ensures { Reads (with_front found ((spec.parameters self.now.depth (spec.tree_at false self.now.depth) (spec.tree_at true self.now.depth)) tokens.old)) result tokens.new }
     {

@@ -17,7 +17,7 @@ pub exprs_nest_within-returns-then-not-expr_nests_within : goal.exprs_nest_withi
 exprs_nest_within-returns-then-not-expr_nests_within t c = (
   λ h. cc,
   λ h. absurd (deeper_within expr_nesting c.args.trees.now c.loop-tree.tree-index c.in-Some.left c.tree-item.result c.expr_nests_within.result c.loop-tree-test.true c.tree-item.is
-  c.expr_nests_within.ensures.0 c.expr_nests_within.ensures.1 c.if-not-expr_nests_within.true (omega (arith, c.in-Some.ensures))),
+      c.expr_nests_within.ensures.0 c.expr_nests_within.ensures.1 c.if-not-expr_nests_within.true (omega (arith, c.in-Some.ensures))),
 )
 
 pub exprs_nest_below-loop-tree-preserved : goal.exprs_nest_below-loop-tree-preserved

@@ -54,9 +54,9 @@ unfolding linked
 turns-preserved g c = (
   c.turns.invariant.0 ++ (c.in_ok-operator.field-0, c.in_ok-operand.field-0) ∷ [],
   rw (c.in_ok-push.ensures.ok, c.in_ok-push-3.ensures.ok)
-  (apart_more c.turns.invariant.0 c.turns.operators c.turns.operands c.in_ok-operator.field-0 c.in_ok-operand.field-0 c.turns.invariant.1),
+      (apart_more c.turns.invariant.0 c.turns.operators c.turns.operands c.in_ok-operator.field-0 c.in_ok-operand.field-0 c.turns.invariant.1),
   links_turn m.operators_begin m.last_forms_begin m.operator (m.operand c.args.self.now.depth (m.tree_at false c.args.self.now.depth) (m.tree_at true c.args.self.now.depth)) (m.last_form c.args.self.now.depth (m.tree_at false c.args.self.now.depth) (m.tree_at true c.args.self.now.depth)) operator_takes (operand_takes c.args.self.now.depth) c.turns.invariant.0 c.in_ok-operator.field-0 c.in_ok-operand.field-0 c.turns.tokens _ _ (sym c.turns-test.ensures) c.in_ok-operator.ensures
-  (sym c.if-begins_last_form.ensures) c.in_ok-operand.ensures c.turns.invariant.2,
+      (sym c.if-begins_last_form.ensures) c.in_ok-operand.ensures c.turns.invariant.2,
 )
 
 pub returns : goal.returns
