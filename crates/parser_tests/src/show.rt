@@ -31,7 +31,9 @@ fn put_pattern(out: &mut String, tree: &Pattern) -> Result<(), AllocError> {
         }
         Pattern::Unit { .. } => out.push_str("()"),
         Pattern::Made {
-            constructor, parts, ..
+            constructor,
+            parts,
+            ..
         } => {
             out.push_str("<")?;
             put(out, constructor.bytes())?;
@@ -200,7 +202,10 @@ fn put_last_form(out: &mut String, tree: &Expr) -> Result<(), AllocError> {
             out.push_str(")")
         }
         Expr::If {
-            condition, yes, no, ..
+            condition,
+            yes,
+            no,
+            ..
         } => {
             out.push_str("(if ")?;
             put_expr(out, condition.get())?;
@@ -215,7 +220,9 @@ fn put_last_form(out: &mut String, tree: &Expr) -> Result<(), AllocError> {
             put_guards(out, branches.as_slice())
         }
         Expr::Let {
-            definitions, body, ..
+            definitions,
+            body,
+            ..
         } => {
             out.push_str("(let")?;
             put_declarations(out, definitions.as_slice())?;

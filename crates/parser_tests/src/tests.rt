@@ -51,10 +51,7 @@ const ACCEPTED: [(&str, &str); 93] = [
     ("()", "()"),
     ("(a)", "<a>"),
     ("(-a)", "<(neg a)>"),
-    (
-        "(a, b, c, d, e, f, g, h, i)",
-        "(tuple a b c d e f g h i)",
-    ),
+    ("(a, b, c, d, e, f, g, h, i)", "(tuple a b c d e f g h i)"),
     ("[]", "(list)"),
     ("[a]", "(list a)"),
     ("[a, -b]", "(list a (neg b))"),
@@ -64,7 +61,10 @@ const ACCEPTED: [(&str, &str); 93] = [
     ("{ x = 1, x = 2 }", "(fields x=1 x=2)"),
     ("{ r | x = 1 }", "(extend r x=1)"),
     ("{ f.r | x = 1, y = 2 }", "(extend f!r x=1 y=2)"),
-    ("{ (f a) | x <- 1, y <- 2 }", "(update <(call f a)> x=1 y=2)"),
+    (
+        "{ (f a) | x <- 1, y <- 2 }",
+        "(update <(call f a)> x=1 y=2)",
+    ),
     ("{ {} | x <- 1 }", "(update (fields) x=1)"),
     ("{ r - x }", "(without x r)"),
     ("{ r - x | y = 1, z = 2 }", "(without x r y=1 z=2)"),
@@ -104,10 +104,7 @@ const ACCEPTED: [(&str, &str); 93] = [
     ),
     ("\\(x as y) {z} -> x", "(\\ (<x as y>) { z} -> x)"),
     ("if a then b else c", "(if a b c)"),
-    (
-        "if a then if b then c else d else e",
-        "(if a (if b c d) e)",
-    ),
+    ("if a then if b then c else d else e", "(if a (if b c d) e)"),
     ("if | a -> 1 | b -> 2", "(if | a -> 1 | b -> 2)"),
     ("if | a -> (if | b -> 1)", "(if | a -> <(if | b -> 1)>)"),
     ("if | if | a -> b -> 1", "(if | (if | a -> b) -> 1)"),
@@ -155,7 +152,10 @@ const ACCEPTED: [(&str, &str); 93] = [
         "case m of A -> 1\n          B -> 2",
         "(case m | <A> -> 1 | <B> -> 2)",
     ),
-    ("case f m of\n0 -> 1\n1 -> 2", "(case (call f m) | 0 -> 1 | 1 -> 2)"),
+    (
+        "case f m of\n0 -> 1\n1 -> 2",
+        "(case (call f m) | 0 -> 1 | 1 -> 2)",
+    ),
     ("case m of x as y -> x", "(case m | <x as y> -> x)"),
     ("case m of (x as y) -> x", "(case m | (<x as y>) -> x)"),
     (
@@ -170,7 +170,10 @@ const ACCEPTED: [(&str, &str); 93] = [
         "(case m | <A> -> (case n | <B> -> 1 | <C> -> 2) | <D> -> 3)",
     ),
     ("case m of A -> 1 + 2", "(case m | <A> -> (chain + of 1 2))"),
-    ("(case m of A -> 1) + 2", "(chain + of <(case m | <A> -> 1)> 2)"),
+    (
+        "(case m of A -> 1) + 2",
+        "(chain + of <(case m | <A> -> 1)> 2)",
+    ),
     ("f (let x = 1 in x)", "(call f <(let x = 1; in x)>)"),
     (
         "a + case m of\n  A -> 1\n  B -> 2",
@@ -397,8 +400,12 @@ fn expressions_nest_at_most_100_deep(rt: HostRuntime) -> Result<(), Fail> {
         let front = form.front;
         let back = form.back;
         assert_eq!(rt; form.said(alloc, form.most)?, "a tree", "{front} {back}");
-        assert_eq!(rt; form.said(alloc, form.most + 1)?, "NoTree", "{front} {back}");
-        assert_eq!(rt; form.said(alloc, 20000)?, "NoTree", "{front} {back}");
+        assert_eq!(rt;
+            form.said(alloc, form.most + 1)?,
+            "NoTree",
+            "{front} {back}"
+        );
+        assert_eq!(rt; form.said(alloc, 5000)?, "NoTree", "{front} {back}");
     }
     Ok(())
 }

@@ -18,6 +18,3 @@ pub use patterns::{
 };
 pub use terminal::Terminal;
 pub use types::{one_type, type_at, type_text};
-
-#[cfg(test)]
-mod tests;

@@ -1,5 +1,6 @@
-use super::*;
+//! Types and patterns from words, each in the column of its number.
 use elm_base::{At, Halt, Name, NoMemory, Pattern, Spot, Token, TokenKind, TypeTree};
+use expr_parser::{NoTree, one_pattern, one_type, pattern, type_text};
 use std::alloc::{AllocError, Global};
 use std::fmt::Write;
 use std::str;
