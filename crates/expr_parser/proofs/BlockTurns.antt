@@ -1,5 +1,5 @@
 -- How a block begins.
-use Rattle.std.proofs.Common.{◌≡◌, List, [], ◌∷◌, Some, None}
+use Rattle.std.proofs.Common.{◌≡◌, List, [], ◌∷◌, Some}
 use Rattle.elm_base.specs.declared.token.At.{At}
 use Rattle.pattern_parser.specs.declared.terminal.Terminal.{Terminal}
 use Rattle.pattern_parser.specs.Terminals.{Lexeme}

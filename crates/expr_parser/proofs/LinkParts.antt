@@ -1,13 +1,10 @@
 -- The operators and the operands of links.
-use Rattle.std.proofs.Common.{◌≡◌, ◌≢◌, List, [], ◌∷◌, ◌++◌, map, refl, sym, ◌∙◌, ap, Some, None}
+use Rattle.std.proofs.Common.{◌≡◌, ◌≢◌, List, [], ◌∷◌, ◌++◌, refl, sym, ap, Some, None}
 use Rattle.std.proofs.lemmas.List.{map-append}
-use Rattle.elm_base.specs.declared.memory.Halt.{Halt}
-use Rattle.elm_base.specs.declared.memory.Halt.TheVariants as halt
 use Rattle.elm_base.specs.declared.token.At.{At}
 use Rattle.elm_base.specs.declared.tree.Operator.{Operator}
 use Rattle.elm_base.specs.declared.tree.Expr.{Expr}
 use Rattle.elm_base.specs.declared.tree.Expr.TheVariants as e
-use Rattle.pattern_parser.specs.declared.cursor.NoTree.{NoTree}
 use Rattle.pattern_parser.specs.Terminals.{Lexeme}
 use Rattle.pattern_parser.specs.Reader.{Parser, Outcome, and_then, here, at, ◌⊗◌, ◌<$>◌}
 use Rattle.pattern_parser.proofs.Laws.{then_ok, ok_same}

@@ -5,7 +5,7 @@ use Rattle.elm_base.specs.declared.memory.Halt.TheVariants as halt
 use Rattle.pattern_parser.specs.declared.cursor.NoTree.{NoTree}
 use Rattle.pattern_parser.specs.declared.terminal.Terminal.{Terminal}
 use Rattle.pattern_parser.specs.Terminals.{Lexeme, starts}
-use Rattle.pattern_parser.specs.Reader.{Outcome, Parser, and_then, links, linked, with_front}
+use Rattle.pattern_parser.specs.Reader.{Outcome, Parser, and_then, links, with_front}
 use Rattle.pattern_parser.proofs.Turns.{Takes}
 
 module _ {A B : Type 0} (between last : List Terminal) (o : Parser A) (p q : Parser B) where

@@ -1,6 +1,6 @@
 -- What the loops of records, lists and applications read takes a token at least.
 use Rattle.std.proofs.Common.{ℕ, refl}
-use Rattle.std.specs.Prelude.{true, false, List}
+use Rattle.std.specs.Prelude.{true, false}
 use Rattle.pattern_parser.specs.declared.terminal.Terminal.TheVariants as k
 use Rattle.pattern_parser.specs.Terminals.{same_terminal}
 use Rattle.pattern_parser.specs.Spelling.{label_of}

@@ -1,4 +1,4 @@
-use Rattle.std.proofs.Common.{map, ap, ◌≤◌, IsTrue, subst, sym, List, ℕ, ◌≡◌}
+use Rattle.std.proofs.Common.{map, ap, ◌≤◌, subst, sym, List, ℕ, ◌≡◌}
 use Rattle.elm_base.specs.declared.tree.TypeTree.{TypeTree}
 use Rattle.elm_base.specs.declared.tree.Constructor.{Constructor}
 use Rattle.pattern_parser.specs.Nesting.{most, type_nesting}

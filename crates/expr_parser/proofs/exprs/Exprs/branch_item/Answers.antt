@@ -1,6 +1,5 @@
-use Rattle.std.proofs.Common.{◌≡◌, ◌≤◌, true, false, Some, drop, length, ◌-◌, sym, ap, arith}
+use Rattle.std.proofs.Common.{true, false, arith}
 use Rattle.std.proofs.lemmas.Result.{err_from_is_err_and}
-use Rattle.pattern_parser.specs.Reader.{item}
 use Rattle.pattern_parser.proofs.Items.{item_end, item_err}
 use Rattle.expr_parser.specs.ExprReader as m
 use Rattle.expr_parser.proofs.ExprReadings.{tree_reads, branch_reads}
