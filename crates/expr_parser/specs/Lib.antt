@@ -1,11 +1,6 @@
-pub mod Terminals
-pub mod Rules
-pub mod Reader
-pub mod Spelling
-pub mod Nesting
-pub mod Types
-pub mod TypeReader
-pub mod TypeCalls
-pub mod Patterns
-pub mod PatternReader
-pub mod PatternCalls
+pub mod Expressions
+pub mod ExpressionNesting
+pub mod ExprReader
+pub mod ExprCalls
+pub mod Places
+pub mod Chains

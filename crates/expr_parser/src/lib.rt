@@ -1,16 +1,20 @@
-//! Lists of tokens as trees: types and patterns, exactly the one tree that derives.
+//! Lists of tokens as trees: expressions, exactly the one tree that derives, and beside them types and patterns.
 #![tactic(auto)]
 
-mod cursor;
-mod nesting;
-mod patterns;
-mod spelling;
-mod terminal;
-mod types;
+mod applications;
+mod atoms;
+mod begins;
+mod blocks;
+mod brackets;
+mod calls;
+mod chains;
+mod expression_nesting;
+mod exprs;
+mod forms;
+mod lists;
+mod operators;
+mod records;
+mod shapes;
 
-pub use cursor::NoTree;
-pub use patterns::{one_pattern, pattern};
-pub use types::{one_type, type_text};
-
-#[cfg(test)]
-mod tests;
+pub use calls::{expr, one_expr};
+pub use pattern_parser::{NoTree, one_pattern, one_type, pattern, type_text};

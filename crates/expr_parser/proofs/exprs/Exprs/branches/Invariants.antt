@@ -1,0 +1,12 @@
+use Rattle.std.proofs.Common.{◌≡◌, true, false, length}
+use Rattle.pattern_parser.specs.Reader.{with_front, block, items}
+use Rattle.pattern_parser.specs.PatternReader.{patterns_begin}
+use Rattle.expr_parser.specs.ExprReader as m
+use Rattle.expr_parser.proofs.exprs.Exprs.branches.Given as goal
+
+-- what is left to read goes behind what was found
+abbrev pub invariant-turns : goal.invariant-turns
+invariant-turns g l = block patterns_begin (m.branch l.self.depth (m.tree_at false l.self.depth) (m.tree_at true l.self.depth)) l.fn.tokens ≡ with_front l.found (items patterns_begin (m.branch l.self.depth (m.tree_at false l.self.depth) (m.tree_at true l.self.depth)) l.column l.tokens)
+
+abbrev pub decreases-turns : goal.decreases-turns
+decreases-turns g l = length l.tokens

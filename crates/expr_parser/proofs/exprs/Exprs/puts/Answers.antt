@@ -1,0 +1,38 @@
+use Rattle.std.proofs.Common.{true, false, [], ◌∷◌, refl, sym, rules, arith}
+use Rattle.std.proofs.lemmas.Grind.{common_steps}
+use Rattle.std.proofs.lemmas.Result.{err_from_is_err_and}
+use Rattle.pattern_parser.specs.declared.terminal.Terminal.TheVariants as k
+use Rattle.pattern_parser.specs.Reader.{many}
+use Rattle.pattern_parser.proofs.Turns.{loop_turn, loop_err, loop_ends, with_one}
+use Rattle.expr_parser.specs.ExprReader as m
+use Rattle.expr_parser.specs.ExprReader.{more, sets, puts}
+use Rattle.expr_parser.proofs.Takes.{next_put_takes}
+use Rattle.expr_parser.proofs.exprs.Exprs.puts.Goals as goal
+
+pub returns-in_err-put : goal.returns-in_err-put
+unfolding puts
+returns-in_err-put g c = first_of (search rules, grind (arith, common_steps))
+
+pub turns-init : goal.turns-init
+unfolding puts
+turns-init g c =
+    rw (c.in_ok-push.ensures.ok, c.new-found.ensures)
+    (with_one (m.put c.args.self.now.depth (m.tree_at false c.args.self.now.depth) (m.tree_at true c.args.self.now.depth)) (many (k.Comma ∷ []) (m.next_put c.args.self.now.depth (m.tree_at false c.args.self.now.depth) (m.tree_at true c.args.self.now.depth))) _ c.args.tokens.now _ c.in_ok-put.ensures)
+
+pub returns-in_err-next_put : goal.returns-in_err-next_put
+unfolding many
+returns-in_err-next_put g c =
+    let p = err_from_is_err_and c.from_residual-in_err-next_put.result c.from_residual-in_err-next_put.ensures.1 in
+    rw (p.1, p.2) (loop_err _ _ refl (next_put_takes c.args.self.now.depth) c.turns.found _ c.turns.tokens (sym c.turns-test.ensures) c.in_err-next_put.ensures c.turns.invariant)
+
+pub turns-smaller : goal.turns-smaller
+turns-smaller g c = next_put_takes c.args.self.now.depth _ _ _ c.in_ok-next_put.ensures
+
+pub turns-preserved : goal.turns-preserved
+unfolding many
+turns-preserved g c =
+    rw c.in_ok-push-2.ensures.ok (loop_turn _ _ refl (next_put_takes c.args.self.now.depth) c.turns.found _ c.turns.tokens _ (sym c.turns-test.ensures) c.in_ok-next_put.ensures c.turns.invariant)
+
+pub returns : goal.returns
+unfolding many
+returns g c = loop_ends _ _ c.turns.found c.turns.tokens (sym c.turns-test.ensures) c.turns.invariant

@@ -1,4 +1,0 @@
-use Rattle.expr_parser.proofs.patterns.+cons_at.Given as goal
-
-abbrev pub decreases-cons_at : goal.decreases-cons_at
-decreases-cons_at l = l.depth

@@ -1,0 +1,12 @@
+use Rattle.std.proofs.Common.{◌≡◌, length}
+use Rattle.pattern_parser.specs.Reader.{with_front, many}
+use Rattle.pattern_parser.specs.PatternReader as m
+use Rattle.pattern_parser.specs.PatternReader.{cons_at, patterns_begin}
+use Rattle.pattern_parser.proofs.patterns.Patterns.parts.Given as goal
+
+-- what is left to read goes behind what was found
+abbrev pub invariant-turns : goal.invariant-turns
+invariant-turns g l = m.parts (cons_at l.self.depth) l.fn.tokens ≡ with_front l.found (many patterns_begin (m.part (cons_at l.self.depth)) l.tokens)
+
+abbrev pub decreases-turns : goal.decreases-turns
+decreases-turns g l = length l.tokens

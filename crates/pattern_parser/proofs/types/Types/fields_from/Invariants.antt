@@ -1,0 +1,14 @@
+use Rattle.std.proofs.Common.{◌≡◌, [], ◌∷◌, length}
+use Rattle.pattern_parser.specs.declared.terminal.Terminal.TheVariants as k
+use Rattle.pattern_parser.specs.Reader.{with_front, many}
+use Rattle.pattern_parser.specs.TypeReader as m
+use Rattle.pattern_parser.specs.TypeReader.{type_at, arguments_begin}
+use Rattle.pattern_parser.proofs.types.Types.fields_from.Given as goal
+
+-- what is left to read goes behind what was found
+abbrev pub invariant-turns : goal.invariant-turns
+invariant-turns g l =
+    with_front (l.fn.first ∷ []) (m.more_fields (type_at l.self.depth) l.fn.tokens) ≡ with_front l.found (many (k.Comma ∷ []) (m.next_field (type_at l.self.depth)) l.tokens)
+
+abbrev pub decreases-turns : goal.decreases-turns
+decreases-turns g l = length l.tokens

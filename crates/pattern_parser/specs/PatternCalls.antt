@@ -1,0 +1,16 @@
+-- A function value that parses patterns to a depth.
+use Rattle.std.specs.Prelude.{ℕ, List, Result}
+use Rattle.std.specs.declared.alloc.Global.{Global}
+use denote.Ref.{MutBor}
+use Rattle.elm_base.specs.declared.memory.Halt.{Halt}
+use Rattle.elm_base.specs.declared.tree.Pattern.{Pattern}
+use Rattle.pattern_parser.specs.declared.cursor.NoTree.{NoTree}
+use Rattle.pattern_parser.specs.Terminals.{Lexeme}
+use Rattle.pattern_parser.specs.Reader.{Reads}
+use Rattle.pattern_parser.specs.PatternReader.{cons_at}
+
+pub record ReadsPatterns (depth : ℕ) (pre : Global → ℕ → MutBor (List Lexeme) → Type 0)
+    (post : Global → ℕ → MutBor (List Lexeme) → Result Pattern (Halt NoTree) → MutBor (List Lexeme) → Type 0) : Type 0 where
+  pub callable : (alloc : Global) (old : MutBor (List Lexeme)) → pre alloc depth old
+  pub reads : (alloc : Global) (old new : MutBor (List Lexeme)) (r : Result Pattern (Halt NoTree)) → post alloc depth old r new
+      → Reads (cons_at depth old.now) r new.now
