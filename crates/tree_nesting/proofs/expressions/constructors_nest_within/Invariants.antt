@@ -1,6 +1,6 @@
 use Rattle.std.proofs.Common.{◌≤◌, map, take}
-use Rattle.pattern_parser.specs.Nesting.{most, type_nesting}
-use Rattle.expr_parser.proofs.expression_nesting.constructors_nest_within.Given as goal
+use Rattle.tree_nesting.specs.Nesting.{most, type_nesting}
+use Rattle.tree_nesting.proofs.expressions.constructors_nest_within.Given as goal
 
 -- those so far nest within the limit
 abbrev pub invariant-loop-made : goal.invariant-loop-made

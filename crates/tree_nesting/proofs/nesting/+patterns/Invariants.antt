@@ -1,6 +1,6 @@
 use Rattle.std.proofs.Common.{◌≤◌, map, take}
-use Rattle.pattern_parser.specs.Nesting.{around, pattern_nesting}
-use Rattle.pattern_parser.proofs.nesting.+patterns.Given as goal
+use Rattle.tree_nesting.specs.Nesting.{around, pattern_nesting}
+use Rattle.tree_nesting.proofs.nesting.+patterns.Given as goal
 
 -- those so far nest within the limit
 abbrev pub invariant-patterns_nest_below-loop-tree : goal.invariant-patterns_nest_below-loop-tree

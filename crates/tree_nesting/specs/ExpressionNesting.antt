@@ -6,7 +6,7 @@ use Rattle.elm_base.specs.declared.tree.Expr.{Expr, out-Expr}
 use Rattle.elm_base.specs.declared.tree.Declaration.{Declaration}
 use Rattle.elm_base.specs.declared.tree.Declaration.TheOpen as tree
 use Rattle.elm_base.specs.declared.tree.Declaration.TheFolds.{fold-Expr, fold-Declaration, fold-Set}
-use Rattle.pattern_parser.specs.Nesting.{most, around, type_nesting, pattern_nesting}
+use Rattle.tree_nesting.specs.Nesting.{most, around, type_nesting, pattern_nesting}
 
 -- Of an expression, from the nestings of its parts. The parts of a chain count deeper by the number of its operators, those of a call by
 -- the number of its arguments, and the body of a lambda by the number of its parameters.

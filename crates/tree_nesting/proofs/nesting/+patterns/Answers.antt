@@ -1,6 +1,6 @@
-use Rattle.pattern_parser.specs.Nesting.{pattern_nesting}
-use Rattle.pattern_parser.proofs.NestingLaws.{more, none}
-use Rattle.pattern_parser.proofs.nesting.+patterns.Goals as goal
+use Rattle.tree_nesting.specs.Nesting.{pattern_nesting}
+use Rattle.tree_nesting.proofs.NestingLaws.{more, none}
+use Rattle.tree_nesting.proofs.nesting.+patterns.Goals as goal
 
 pub patterns_nest_below-loop-tree-preserved : goal.patterns_nest_below-loop-tree-preserved
 patterns_nest_below-loop-tree-preserved t c =

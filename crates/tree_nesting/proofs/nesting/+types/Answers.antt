@@ -1,8 +1,8 @@
 use Rattle.elm_base.specs.declared.tree.Spot.{Spot}
 use Rattle.elm_base.specs.declared.tree.TypeTree.{TypeTree}
-use Rattle.pattern_parser.specs.Nesting.{type_nesting}
-use Rattle.pattern_parser.proofs.NestingLaws.{of_fields, more, none}
-use Rattle.pattern_parser.proofs.nesting.+types.Goals as goal
+use Rattle.tree_nesting.specs.Nesting.{type_nesting}
+use Rattle.tree_nesting.proofs.NestingLaws.{of_fields, more, none}
+use Rattle.tree_nesting.proofs.nesting.+types.Goals as goal
 
 pub type_nests_within-returns-in-Fields : goal.type_nests_within-returns-in-Fields
 type_nests_within-returns-in-Fields t c =

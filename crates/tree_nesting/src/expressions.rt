@@ -1,12 +1,12 @@
 //! How deep expressions and declarations nest, against a limit. The limit bounds the recursion.
 ghost use Rattle.std.specs.Prelude.{◌≡◌, ◌<◌, ◌≤◌, ◌+◌, ◌↔◌, max, IsTrue, MatchOption, map};
-ghost use Rattle.pattern_parser.specs.Nesting.{around, most, pattern_nesting, type_nesting};
-ghost use Rattle.expr_parser.specs.ExpressionNesting.{branches_of, declaration_nesting, expr_nesting, guards_of, set_nesting};
+ghost use Rattle.tree_nesting.specs.Nesting.{around, most, pattern_nesting, type_nesting};
+ghost use Rattle.tree_nesting.specs.ExpressionNesting.{branches_of, declaration_nesting, expr_nesting, guards_of, set_nesting};
 
-use elm_base::{Constructor, Declaration, Expr, Pattern, Set, TypeTree};
-use pattern_parser::{
+use crate::nesting::{
     pattern_nests_below, pattern_nests_within, patterns_nest_below, type_nests_within,
 };
+use elm_base::{Constructor, Declaration, Expr, Pattern, Set, TypeTree};
 
 /// What is left of a limit for parts that count deeper by `count`.
 fn left_of(limit: u32, count: usize) -> Option<u32>

@@ -1,6 +1,6 @@
 use Rattle.std.proofs.Common.{◌≤◌, map, take}
-use Rattle.pattern_parser.specs.Nesting.{around, type_nesting}
-use Rattle.pattern_parser.proofs.nesting.+types.Given as goal
+use Rattle.tree_nesting.specs.Nesting.{around, type_nesting}
+use Rattle.tree_nesting.proofs.nesting.+types.Given as goal
 
 -- those so far nest within the limit
 abbrev pub invariant-fields_nest_below-loop-tree : goal.invariant-fields_nest_below-loop-tree

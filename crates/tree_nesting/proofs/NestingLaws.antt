@@ -12,8 +12,8 @@ use Rattle.elm_base.specs.declared.tree.TypeTree.{TypeTree}
 use Rattle.elm_base.specs.declared.tree.TypeTree.TheOpen as type
 use Rattle.elm_base.specs.declared.tree.TypeTree.TheFolds.{fold-roll-TypeTree}
 use Rattle.elm_base.specs.declared.tree.TypeTree.TheVariants as t
-use Rattle.pattern_parser.proofs.Shallow.{Each}
-use Rattle.pattern_parser.specs.Nesting.{most, around, type_step, type_nesting, pattern_step, pattern_nesting}
+use Rattle.tree_nesting.proofs.Each.{Each}
+use Rattle.tree_nesting.specs.Nesting.{most, around, type_step, type_nesting, pattern_step, pattern_nesting}
 
 pub of_variable : (at : At) (name : List ℕ) → type_nesting (t.Variable at name) ≡ 0
 of_variable at name = ap type_nesting (sym (t.rolls-Variable at name)) ∙ fold-roll-TypeTree ℕ type_step (type.Variable at name)

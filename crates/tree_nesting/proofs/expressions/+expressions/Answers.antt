@@ -1,12 +1,12 @@
 use Rattle.std.proofs.Common.{map, ◌≡◌, ◌<◌, ℕ, true, false, [], max, refl, sym, ◌∙◌, rules, arith}
 use Rattle.elm_base.specs.declared.tree.Expr.{Expr}
 use Rattle.elm_base.specs.declared.tree.Pattern.{Pattern}
-use Rattle.pattern_parser.specs.Nesting.{pattern_nesting}
-use Rattle.pattern_parser.proofs.NestingLaws.{more, none}
-use Rattle.expr_parser.specs.ExpressionNesting.{expr_nesting, declaration_nesting, set_nesting, guards_of}
-use Rattle.expr_parser.proofs.ExprNestingLaws.{of_field, of_guards, of_case, guards_there, branches_there}
-use Rattle.expr_parser.proofs.MostLaws.{more_within, deeper_within, around_cons, all_within}
-use Rattle.expr_parser.proofs.expression_nesting.+expressions.Goals as goal
+use Rattle.tree_nesting.specs.Nesting.{pattern_nesting}
+use Rattle.tree_nesting.proofs.NestingLaws.{more, none}
+use Rattle.tree_nesting.specs.ExpressionNesting.{expr_nesting, declaration_nesting, set_nesting, guards_of}
+use Rattle.tree_nesting.proofs.ExprNestingLaws.{of_field, of_guards, of_case, guards_there, branches_there}
+use Rattle.tree_nesting.proofs.MostLaws.{more_within, deeper_within, around_cons, all_within}
+use Rattle.tree_nesting.proofs.expressions.+expressions.Goals as goal
 
 pub exprs_nest_within-loop-tree-preserved : goal.exprs_nest_within-loop-tree-preserved
 exprs_nest_within-loop-tree-preserved t c =

@@ -11,9 +11,9 @@ use Rattle.elm_base.specs.declared.tree.Declaration.{Declaration}
 use Rattle.elm_base.specs.declared.tree.Declaration.TheVariants as d
 use Rattle.elm_base.specs.declared.tree.Declaration.TheOpen as tree
 use Rattle.elm_base.specs.declared.tree.Declaration.TheFolds.{fold-roll-Expr, fold-roll-Declaration, fold-roll-Set}
-use Rattle.pattern_parser.specs.Nesting.{most, around, type_nesting, pattern_nesting}
-use Rattle.expr_parser.specs.ExpressionNesting.{expr_step, declaration_step, expr_nesting, declaration_nesting, set_nesting, guards_layer, guards_of, branches_layer, branches_of}
-use Rattle.pattern_parser.proofs.NestingLaws.{map_twice}
+use Rattle.tree_nesting.specs.Nesting.{most, around, type_nesting, pattern_nesting}
+use Rattle.tree_nesting.specs.ExpressionNesting.{expr_step, declaration_step, expr_nesting, declaration_nesting, set_nesting, guards_layer, guards_of, branches_layer, branches_of}
+use Rattle.tree_nesting.proofs.NestingLaws.{map_twice}
 
 pub of_chain : (at : At) (xs : List Expr) (operators : List Operator) → expr_nesting (e.Chain at xs operators) ≡ length operators + most (map expr_nesting xs)
 of_chain at xs operators =

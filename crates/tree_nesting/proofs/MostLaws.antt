@@ -2,8 +2,8 @@
 use Rattle.std.proofs.Common.{take_all, refl, ◌≡◌, ℕ, ◌+◌, ◌<◌, ◌≤◌, Bool, true, false, IsTrue, List, [], ◌∷◌, length, get_or, map, take, add-one, sym, subst, arith}
 use Rattle.std.proofs.Math.Seq.{take-suc}
 use Rattle.std.proofs.lemmas.List.{map-append}
-use Rattle.pattern_parser.specs.Nesting.{most, around}
-use Rattle.pattern_parser.proofs.NestingLaws.{most_at, most_last}
+use Rattle.tree_nesting.specs.Nesting.{most, around}
+use Rattle.tree_nesting.proofs.NestingLaws.{most_at, most_last}
 
 -- one part beside others
 pub around_cons : (n : ℕ) (ns : List ℕ) (limit : ℕ) → ((n < limit) × (around ns ≤ limit) → around (n ∷ ns) ≤ limit) × (around (n ∷ ns) ≤ limit → (n < limit) × (around ns ≤ limit))

@@ -1,9 +1,9 @@
 use Rattle.std.proofs.Common.{map, ap, ◌≤◌, subst, sym, List, ℕ, ◌≡◌}
 use Rattle.elm_base.specs.declared.tree.TypeTree.{TypeTree}
 use Rattle.elm_base.specs.declared.tree.Constructor.{Constructor}
-use Rattle.pattern_parser.specs.Nesting.{most, type_nesting}
-use Rattle.expr_parser.proofs.MostLaws.{more_within, none_within}
-use Rattle.expr_parser.proofs.expression_nesting.constructors_nest_within.Goals as goal
+use Rattle.tree_nesting.specs.Nesting.{most, type_nesting}
+use Rattle.tree_nesting.proofs.MostLaws.{more_within, none_within}
+use Rattle.tree_nesting.proofs.expressions.constructors_nest_within.Goals as goal
 
 -- of a constructor, the most of its arguments
 abbrev made_nesting : Constructor → ℕ

@@ -1,7 +1,7 @@
 use Rattle.std.proofs.Common.{◌≤◌, map, max, take}
-use Rattle.pattern_parser.specs.Nesting.{around, most, pattern_nesting}
-use Rattle.expr_parser.specs.ExpressionNesting.{expr_nesting, declaration_nesting, set_nesting}
-use Rattle.expr_parser.proofs.expression_nesting.+expressions.Given as goal
+use Rattle.tree_nesting.specs.Nesting.{around, most, pattern_nesting}
+use Rattle.tree_nesting.specs.ExpressionNesting.{expr_nesting, declaration_nesting, set_nesting}
+use Rattle.tree_nesting.proofs.expressions.+expressions.Given as goal
 
 -- those so far nest within the limit
 abbrev pub invariant-exprs_nest_within-loop-tree : goal.invariant-exprs_nest_within-loop-tree

@@ -1,6 +1,6 @@
 //! How deep trees nest, against a limit. The limit bounds the recursion.
 ghost use Rattle.std.specs.Prelude.{◌≡◌, ◌<◌, ◌≤◌, ◌↔◌, IsTrue, map};
-ghost use Rattle.pattern_parser.specs.Nesting.{around, pattern_nesting, type_nesting};
+ghost use Rattle.tree_nesting.specs.Nesting.{around, pattern_nesting, type_nesting};
 
 use elm_base::{Pattern, Spot, TypeTree};
 

@@ -1,6 +1,6 @@
-use Rattle.pattern_parser.specs.Nesting.{type_nesting}
-use Rattle.expr_parser.proofs.MostLaws.{more_within, none_within}
-use Rattle.expr_parser.proofs.expression_nesting.types_nest_within.Goals as goal
+use Rattle.tree_nesting.specs.Nesting.{type_nesting}
+use Rattle.tree_nesting.proofs.MostLaws.{more_within, none_within}
+use Rattle.tree_nesting.proofs.expressions.types_nest_within.Goals as goal
 
 pub loop-tree-preserved : goal.loop-tree-preserved
 loop-tree-preserved c =
