@@ -14,8 +14,8 @@ use crate::cursor::{Cursor, MOST_PARTS, NoTree};
 use crate::terminal::Terminal;
 use elm_base::{At, Halt, Spot, Token, TypeTree};
 use sqlite_items::{Boxed, Items};
-use tree_nesting::{MOST_NESTING, type_nests_within};
 use std::alloc::{AllocError, Global};
+use tree_nesting::{MOST_NESTING, type_nests_within};
 
 /// Of a type that nests within the limit, so many whole types stand inside each other at most.
 const DEPTH: usize = 101;
