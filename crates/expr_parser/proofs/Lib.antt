@@ -1,12 +1,10 @@
 pub mod GuardLaws
 pub mod ExprReadings
-pub mod ExprNestingLaws
 pub mod ExprLaws
 pub mod Takes
 pub mod Commas
 pub mod Closing
 pub mod LinkTurns
-pub mod MostLaws
 pub mod LastLaws
 pub mod FormTakes
 pub mod BlockTurns

@@ -1,5 +1,4 @@
 pub mod Expressions
-pub mod ExpressionNesting
 pub mod ExprReader
 pub mod ExprCalls
 pub mod Places

@@ -4,13 +4,13 @@ ghost use Rattle.elm_base.specs.declared.memory.Halt.TheVariants as halt;
 ghost use Rattle.elm_base.specs.declared.tree.Expr.{Expr};
 ghost use Rattle.pattern_parser.specs.Terminals.{Lexeme, lexeme};
 ghost use Rattle.expr_parser.specs.Expressions.{DerivesExpr};
-ghost use Rattle.expr_parser.specs.ExpressionNesting.{expr_nesting};
+ghost use Rattle.tree_nesting.specs.ExpressionNesting.{expr_nesting};
 
 use crate::chains::tree_at;
-use crate::expression_nesting::expr_nests_within;
 use elm_base::{Expr, Halt, Token};
-use pattern_parser::{Cursor, MOST_NESTING, NoTree};
+use pattern_parser::{Cursor, NoTree};
 use std::alloc::Global;
+use tree_nesting::{MOST_NESTING, expr_nests_within};
 
 /// Of an expression that nests within the limit, so many levels stand inside each other at most.
 const DEPTH: usize = 101;

@@ -8,7 +8,6 @@ mod blocks;
 mod brackets;
 mod calls;
 mod chains;
-mod expression_nesting;
 mod exprs;
 mod forms;
 mod lists;

@@ -11,13 +11,14 @@ use Rattle.pattern_parser.specs.Terminals.{Lexeme}
 use Rattle.pattern_parser.specs.Rules as rule
 use Rattle.pattern_parser.specs.Rules.{Rule, at_most_nine}
 use Rattle.pattern_parser.specs.Reader as reader
-use Rattle.pattern_parser.specs.Nesting.{pattern_nesting}
+use Rattle.tree_nesting.specs.Nesting.{pattern_nesting}
 use Rattle.pattern_parser.specs.Patterns as g
 use Rattle.pattern_parser.specs.Patterns.{DerivesPattern}
 use Rattle.pattern_parser.specs.PatternReader as m
 use Rattle.pattern_parser.proofs.Laws.{ok_same}
-use Rattle.pattern_parser.proofs.NestingLaws.{of_made, of_cons, of_list, of_pattern_tuple, of_pattern_brackets, of_pattern_named, around_each}
-use Rattle.pattern_parser.proofs.Shallow.{Shallow, Each, same, when, seq, by, either, only, at, many, after, before, separated}
+use Rattle.tree_nesting.proofs.NestingLaws.{of_made, of_cons, of_list, of_pattern_tuple, of_pattern_brackets, of_pattern_named, around_each}
+use Rattle.pattern_parser.proofs.Shallow.{Shallow, same, when, seq, by, either, only, at, many, after, before, separated}
+use Rattle.tree_nesting.proofs.Each.{Each}
 use Rattle.pattern_parser.proofs.PatternReadings.{whole_reads, cons_reads}
 
 -- a whole pattern, from one without `as`

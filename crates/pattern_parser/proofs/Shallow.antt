@@ -1,5 +1,6 @@
 -- What a rule takes with a bound on its value, another takes as well. So a tree derives at any depth that its nesting needs.
 use Rattle.std.proofs.Common.{ℕ, ◌≡◌, ⊎_elim, inl, inr, List, [], ◌∷◌, Bool, subst}
+use Rattle.tree_nesting.proofs.Each.{Each}
 use Rattle.pattern_parser.specs.Terminals.{Lexeme}
 use Rattle.pattern_parser.specs.Rules as rule
 use Rattle.pattern_parser.specs.Rules.{Rule}
@@ -30,10 +31,6 @@ pub at : {A : Type 0} {P P' : Rule A} {B : A → Type 0} → Shallow P P' B → 
 at s = record { takes = λ ts x w b. (w.0, s.takes ts x.1 w.1 b) }
 
 -- each of the values has its bound
-abbrev pub Each : {A : Type 0} → (A → Type 0) → List A → Type 0
-Each B [] = Unit {0}
-Each B (x ∷ xs) = B x × Each B xs
-
 pub many : {A : Type 0} {P P' : Rule A} {B : A → Type 0} → Shallow P P' B → Shallow (rule.many P) (rule.many P') (Each B)
 many {A} {P} {P'} {B} s = record { takes = takes }
   where

@@ -11,13 +11,14 @@ use Rattle.pattern_parser.specs.Terminals.{Lexeme}
 use Rattle.pattern_parser.specs.Rules as rule
 use Rattle.pattern_parser.specs.Rules.{Rule, at_most_nine}
 use Rattle.pattern_parser.specs.Reader as reader
-use Rattle.pattern_parser.specs.Nesting.{type_nesting}
+use Rattle.tree_nesting.specs.Nesting.{type_nesting}
 use Rattle.pattern_parser.specs.Types as g
 use Rattle.pattern_parser.specs.Types.{DerivesType}
 use Rattle.pattern_parser.specs.TypeReader as m
 use Rattle.pattern_parser.proofs.Laws.{ok_same}
-use Rattle.pattern_parser.proofs.NestingLaws.{of_named, of_arrow, of_brackets, of_tuple, of_fields, around_each}
-use Rattle.pattern_parser.proofs.Shallow.{Shallow, Each, same, when, seq, by, either, only, at, many, after, before, separated}
+use Rattle.tree_nesting.proofs.NestingLaws.{of_named, of_arrow, of_brackets, of_tuple, of_fields, around_each}
+use Rattle.pattern_parser.proofs.Shallow.{Shallow, same, when, seq, by, either, only, at, many, after, before, separated}
+use Rattle.tree_nesting.proofs.Each.{Each}
 use Rattle.pattern_parser.proofs.TypeReadings.{type_reads}
 
 module _ (E E' : Rule TypeTree) (limit : ℕ) (s : Shallow E E' (λ x. type_nesting x < limit)) where

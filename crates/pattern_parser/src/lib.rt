@@ -3,16 +3,12 @@
 #![tactic(auto)]
 
 mod cursor;
-mod nesting;
 mod patterns;
 mod spelling;
 mod terminal;
 mod types;
 
 pub use cursor::{Cursor, MOST_PARTS, NoTree};
-pub use nesting::{
-    MOST_NESTING, pattern_nests_below, pattern_nests_within, patterns_nest_below, type_nests_within,
-};
 pub use patterns::{
     begins_pattern, brackets_at, cons_at, labels, one_pattern, part_at, pattern, pattern_at,
 };

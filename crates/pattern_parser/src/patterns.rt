@@ -4,18 +4,18 @@ ghost use Rattle.elm_base.specs.declared.memory.Halt.TheVariants as halt;
 ghost use Rattle.elm_base.specs.declared.tree.Pattern.{Pattern};
 ghost use Rattle.pattern_parser.specs.Terminals.{Lexeme, lexeme, starts};
 ghost use Rattle.pattern_parser.specs.Reader.{Reads, with_front};
-ghost use Rattle.pattern_parser.specs.Nesting.{pattern_nesting};
+ghost use Rattle.tree_nesting.specs.Nesting.{pattern_nesting};
 ghost use Rattle.pattern_parser.specs.Patterns as grammar;
 ghost use Rattle.pattern_parser.specs.Patterns.{DerivesPattern};
 ghost use Rattle.pattern_parser.specs.PatternReader as spec;
 ghost use Rattle.pattern_parser.specs.PatternCalls.{ReadsPatterns};
 
 use crate::cursor::{Cursor, MOST_PARTS, NoTree};
-use crate::nesting::{MOST_NESTING, pattern_nests_within};
 use crate::terminal::Terminal;
 use elm_base::{At, Halt, Pattern, Spot, Token};
 use sqlite_items::{Boxed, Items};
 use std::alloc::{AllocError, Global};
+use tree_nesting::{MOST_NESTING, pattern_nests_within};
 
 /// Of a pattern that nests within the limit, so many patterns without `as` stand inside each other at most.
 const DEPTH: usize = 101;

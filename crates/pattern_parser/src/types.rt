@@ -4,18 +4,18 @@ ghost use Rattle.elm_base.specs.declared.memory.Halt.TheVariants as halt;
 ghost use Rattle.elm_base.specs.declared.tree.TypeTree.{TypeTree};
 ghost use Rattle.pattern_parser.specs.Terminals.{Lexeme, lexeme, starts};
 ghost use Rattle.pattern_parser.specs.Reader.{Reads, with_front};
-ghost use Rattle.pattern_parser.specs.Nesting.{type_nesting};
+ghost use Rattle.tree_nesting.specs.Nesting.{type_nesting};
 ghost use Rattle.pattern_parser.specs.Types as grammar;
 ghost use Rattle.pattern_parser.specs.Types.{DerivesType};
 ghost use Rattle.pattern_parser.specs.TypeReader as spec;
 ghost use Rattle.pattern_parser.specs.TypeCalls.{ReadsTypes};
 
 use crate::cursor::{Cursor, MOST_PARTS, NoTree};
-use crate::nesting::{MOST_NESTING, type_nests_within};
 use crate::terminal::Terminal;
 use elm_base::{At, Halt, Spot, Token, TypeTree};
 use sqlite_items::{Boxed, Items};
 use std::alloc::{AllocError, Global};
+use tree_nesting::{MOST_NESTING, type_nests_within};
 
 /// Of a type that nests within the limit, so many whole types stand inside each other at most.
 const DEPTH: usize = 101;

@@ -1,6 +1,6 @@
 use Rattle.std.proofs.Common.{false, ◌∙◌, sym, ap, subst, ◌≤◌}
 use Rattle.std.proofs.lemmas.Result.{err_from_is_err_and}
-use Rattle.expr_parser.specs.ExpressionNesting.{expr_nesting}
+use Rattle.tree_nesting.specs.ExpressionNesting.{expr_nesting}
 use Rattle.expr_parser.specs.ExprReader as m
 use Rattle.expr_parser.proofs.ExprLaws.{read_derives, found_it, none_left, only_memory}
 use Rattle.expr_parser.proofs.calls.expr.Goals as goal

@@ -1,6 +1,6 @@
 use Rattle.std.proofs.Common.{◌∙◌, sym, ap, subst, ◌≤◌}
 use Rattle.std.proofs.lemmas.Result.{err_from_is_err_and}
-use Rattle.pattern_parser.specs.Nesting.{pattern_nesting}
+use Rattle.tree_nesting.specs.Nesting.{pattern_nesting}
 use Rattle.pattern_parser.specs.PatternReader as m
 use Rattle.pattern_parser.proofs.PatternLaws.{read_derives, found_it, none_left, only_memory}
 use Rattle.pattern_parser.proofs.patterns.pattern.Goals as goal

@@ -1,7 +1,0 @@
-use Rattle.std.proofs.Common.{◌≤◌, map, take}
-use Rattle.pattern_parser.specs.Nesting.{most, type_nesting}
-use Rattle.expr_parser.proofs.expression_nesting.constructors_nest_within.Given as goal
-
--- those so far nest within the limit
-abbrev pub invariant-loop-made : goal.invariant-loop-made
-invariant-loop-made l = most (map (λ made. most (map type_nesting made.arguments)) (take l.made-index l.constructors)) ≤ l.limit

@@ -1,0 +1,4 @@
+pub mod Each
+pub mod NestingLaws
+pub mod ExprNestingLaws
+pub mod MostLaws
