@@ -4,6 +4,7 @@ ghost use Rattle.elm_base.specs.declared.memory.Halt.TheVariants as halt;
 ghost use Rattle.elm_base.specs.declared.tree.Expr.{Expr};
 ghost use Rattle.pattern_parser.specs.Terminals.{Lexeme, lexeme};
 ghost use Rattle.expr_parser.specs.Expressions.{DerivesExpr};
+ghost use Rattle.tree_nesting.specs.Nesting.{max_nesting};
 ghost use Rattle.tree_nesting.specs.ExpressionNesting.{expr_nesting};
 
 use crate::chains::tree_at;
@@ -21,12 +22,12 @@ const DEPTH: usize = 101;
 /// arguments, and a body by the number of its parameters.
 pub fn expr(alloc: Global, tokens: &[Token<'_>]) -> Result<Expr, Halt<NoTree>>
     ensures derives { IfOk result (λ tree. DerivesExpr (map lexeme tokens.now) tree) }
-    ensures nests { IfOk result (λ tree. expr_nesting tree ≤ MOST_NESTING) }
+    ensures nests { IfOk result (λ tree. expr_nesting tree ≤ max_nesting) }
     // An expression that derives and nests so is given, unless memory runs out.
-    ensures found { (tree : Expr) → DerivesExpr (map lexeme tokens.now) tree → expr_nesting tree ≤ MOST_NESTING →
+    ensures found { (tree : Expr) → DerivesExpr (map lexeme tokens.now) tree → expr_nesting tree ≤ max_nesting →
         MatchResult result (λ found. found ≡ tree) (λ cause. cause ≡ halt.NoMemory) }
     ensures refused { IfErr result (λ cause. cause ≢ halt.NoMemory → (tree : Expr) → DerivesExpr (map lexeme tokens.now) tree →
-        expr_nesting tree ≤ MOST_NESTING → ⊥) }
+        expr_nesting tree ≤ max_nesting → ⊥) }
 {
     let mut cursor = Cursor::new(tokens);
     let found = tree_at(alloc, false, DEPTH, &mut cursor)?;

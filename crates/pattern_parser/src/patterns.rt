@@ -4,7 +4,7 @@ ghost use Rattle.elm_base.specs.declared.memory.Halt.TheVariants as halt;
 ghost use Rattle.elm_base.specs.declared.tree.Pattern.{Pattern};
 ghost use Rattle.pattern_parser.specs.Terminals.{Lexeme, lexeme, starts};
 ghost use Rattle.pattern_parser.specs.Reader.{Reads, with_front};
-ghost use Rattle.tree_nesting.specs.Nesting.{pattern_nesting};
+ghost use Rattle.tree_nesting.specs.Nesting.{max_nesting, pattern_nesting};
 ghost use Rattle.pattern_parser.specs.Patterns as grammar;
 ghost use Rattle.pattern_parser.specs.Patterns.{DerivesPattern};
 ghost use Rattle.pattern_parser.specs.PatternReader as spec;
@@ -471,12 +471,12 @@ impl<F: Fn(Global, usize, &mut Cursor<'_>) -> Result<Pattern, Halt<NoTree>>> Pat
 /// such pattern derives. A pattern without parts has nesting 0, and any other one more than the most of its parts.
 pub fn pattern(alloc: Global, tokens: &[Token<'_>]) -> Result<Pattern, Halt<NoTree>>
     ensures derives { IfOk result (λ tree. DerivesPattern (map lexeme tokens.now) tree) }
-    ensures nests { IfOk result (λ tree. pattern_nesting tree ≤ MOST_NESTING) }
+    ensures nests { IfOk result (λ tree. pattern_nesting tree ≤ max_nesting) }
     // A pattern that derives and nests so is given, unless memory runs out.
-    ensures found { (tree : Pattern) → DerivesPattern (map lexeme tokens.now) tree → pattern_nesting tree ≤ MOST_NESTING →
+    ensures found { (tree : Pattern) → DerivesPattern (map lexeme tokens.now) tree → pattern_nesting tree ≤ max_nesting →
         MatchResult result (λ found. found ≡ tree) (λ cause. cause ≡ halt.NoMemory) }
     ensures refused { IfErr result (λ cause. cause ≢ halt.NoMemory → (tree : Pattern) → DerivesPattern (map lexeme tokens.now) tree →
-        pattern_nesting tree ≤ MOST_NESTING → ⊥) }
+        pattern_nesting tree ≤ max_nesting → ⊥) }
 {
     let mut cursor = Cursor::new(tokens);
     let found = pattern_at(alloc, DEPTH, &mut cursor)?;

@@ -4,7 +4,7 @@ ghost use Rattle.elm_base.specs.declared.memory.Halt.TheVariants as halt;
 ghost use Rattle.elm_base.specs.declared.tree.TypeTree.{TypeTree};
 ghost use Rattle.pattern_parser.specs.Terminals.{Lexeme, lexeme, starts};
 ghost use Rattle.pattern_parser.specs.Reader.{Reads, with_front};
-ghost use Rattle.tree_nesting.specs.Nesting.{type_nesting};
+ghost use Rattle.tree_nesting.specs.Nesting.{max_nesting, type_nesting};
 ghost use Rattle.pattern_parser.specs.Types as grammar;
 ghost use Rattle.pattern_parser.specs.Types.{DerivesType};
 ghost use Rattle.pattern_parser.specs.TypeReader as spec;
@@ -364,12 +364,12 @@ impl<F: Fn(Global, usize, &mut Cursor<'_>) -> Result<TypeTree, Halt<NoTree>>> Ty
 /// type derives. A type without parts has nesting 0, and any other one more than the most of its parts.
 pub fn type_text(alloc: Global, tokens: &[Token<'_>]) -> Result<TypeTree, Halt<NoTree>>
     ensures derives { IfOk result (λ tree. DerivesType (map lexeme tokens.now) tree) }
-    ensures nests { IfOk result (λ tree. type_nesting tree ≤ MOST_NESTING) }
+    ensures nests { IfOk result (λ tree. type_nesting tree ≤ max_nesting) }
     // A type that derives and nests so is given, unless memory runs out.
-    ensures found { (tree : TypeTree) → DerivesType (map lexeme tokens.now) tree → type_nesting tree ≤ MOST_NESTING →
+    ensures found { (tree : TypeTree) → DerivesType (map lexeme tokens.now) tree → type_nesting tree ≤ max_nesting →
         MatchResult result (λ found. found ≡ tree) (λ cause. cause ≡ halt.NoMemory) }
     ensures refused { IfErr result (λ cause. cause ≢ halt.NoMemory → (tree : TypeTree) → DerivesType (map lexeme tokens.now) tree →
-        type_nesting tree ≤ MOST_NESTING → ⊥) }
+        type_nesting tree ≤ max_nesting → ⊥) }
 {
     let mut cursor = Cursor::new(tokens);
     let found = type_at(alloc, DEPTH, &mut cursor)?;

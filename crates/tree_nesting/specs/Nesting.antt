@@ -7,6 +7,10 @@ use Rattle.elm_base.specs.declared.tree.TypeTree.{TypeTree}
 use Rattle.elm_base.specs.declared.tree.TypeTree.TheOpen as type
 use Rattle.elm_base.specs.declared.tree.TypeTree.TheFolds.{fold-TypeTree}
 
+-- a tree that is read nests at most so deep
+abbrev pub max_nesting : ℕ
+max_nesting = 100
+
 -- the greatest of the numbers
 abbrev pub most : List ℕ → ℕ
 most [] = 0
