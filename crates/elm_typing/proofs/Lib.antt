@@ -1,0 +1,3 @@
+mod LabelOrder
+mod RowAlgebra
+mod RowMaps
