@@ -1,4 +1,4 @@
--- The order of labels: by their bytes, a label before those that it begins.
+-- The order of labels, which is that of their bytes.
 use Rattle.std.specs.Prelude.{ℕ, Bool, List}
 use Rattle.std.specs.Cmp.Lexicographic.{slice_cmp}
 use Rattle.std.specs.Ordering.{nat_cmp, is_gt}
