@@ -1,0 +1,16 @@
+//! The store of types while they are inferred: terms that name their parts by number, variables that
+//! are linked to other terms, notes on sorts, and marks to which the store is taken back.
+#![tactic(auto)]
+
+mod change;
+mod node;
+mod shape;
+mod store;
+
+pub use elm_typing::Flag;
+pub use node::Node;
+pub use shape::Shape;
+pub use store::{Store, StoreMark};
+
+/// A term's number. The terms of a store are numbered from 0 in the order in which they were made.
+pub type TermId = u32;
