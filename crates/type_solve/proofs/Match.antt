@@ -1,5 +1,5 @@
 -- One field at a time, the shared ones are paired and the others put by.
-use Rattle.std.proofs.Common.{◌≡◌, ◌≢◌, ◌↔◌, ℕ, zero, suc, ◌+◌, ◌<◌, ◌≤◌, List, [], ◌∷◌, ◌++◌, length, get_or, take, drop, refl, sym, ◌∙◌, ap, subst, arith, add-one, drop-cons}
+use Rattle.std.proofs.Common.{◌≡◌, ◌≢◌, ◌↔◌, ℕ, zero, suc, ◌+◌, ◌<◌, ◌≤◌, List, [], ◌∷◌, ◌++◌, length, get_or, take, drop, refl, sym, ◌∙◌, ap, subst, arith, add-one, drop-cons, append_assoc}
 use Rattle.elm_typing.specs.Ground.{Ground, Row}
 use Rattle.elm_typing.specs.Rows.{extended, extended_all, Lacks}
 use Rattle.elm_typing.proofs.RowAlgebra.{extended_all-append, both_have}
@@ -142,4 +142,63 @@ stands_first fs l k d lt e h = record {
   place_is = take_short fs k (omega arith);
   same = e;
   first = take_misses l fs k d (omega arith) h;
+}
+
+pub read_same : (fs : Fields) (k : ℕ) (d e : List ℕ × ℕ) → k < length fs → get_or fs k d ≡ get_or fs k e
+read_same [] k d e lt = absurd (omega arith)
+read_same (f ∷ fs) zero d e lt = refl
+read_same (f ∷ fs) (suc k) d e lt = read_same fs k d e (omega arith)
+
+-- what is left where the field at its place is taken out
+cut : (before after : Fields) (g d : List ℕ × ℕ) → (take (length before) (before ++ g ∷ after) ++ drop (suc (length before)) (before ++ g ∷ after) ≡ before ++ after) × (get_or (before ++ g ∷ after) (length before) d ≡ g)
+cut [] after g d = (refl, refl)
+cut (f ∷ before) after g d = let r = cut before after g d in (ap (λ gs. f ∷ gs) r.0, r.1)
+
+todo_is : (left : Fields) (k : ℕ) (f : List ℕ × ℕ) → k < length left → f ≡ get_or left k f → drop k left ≡ f ∷ drop (k + 1) left
+todo_is left k f lt ef = rw (add-one, drop-cons left k f) (ap (λ z. z ∷ drop (suc k) left) (sym ef))
+
+-- the pairs that wait, behind those that waited at first
+pub record Waits (first now : List Pair) (left right : Fields) (extra todo rest : Fields) : Type 0 where
+  pub pairs : List Pair
+  pub behind : now ≡ first ++ pairs
+  pub matching : Matching left right pairs extra todo rest
+
+pub waits_none : (first : List Pair) (left right : Fields) → first ≡ first ++ [] → Waits first first left right [] left right
+waits_none first left right e = record { pairs = []; behind = e; matching = matching_none left right }
+
+pub waits_all : (first now : List Pair) (left right extra todo rest : Fields) → todo ≡ [] → Waits first now left right extra todo rest →
+    (pairs : List Pair) × (now ≡ first ++ pairs) × Matches left right pairs extra rest
+waits_all first now left right extra todo rest e w =
+    (w.pairs, w.behind, matching_all left right w.pairs extra rest (subst (λ (fs : Fields). Matching left right w.pairs extra fs rest) e w.matching))
+
+pub step_both : (first now now' : List Pair) (left right extra rest rest' : Fields) (k j : ℕ) (f g : List ℕ × ℕ) → k < length left → f ≡ get_or left k f →
+    Waits first now left right extra (drop k left) rest → StandsFirst rest f.0 j → g ≡ get_or rest j g → rest' ≡ take j rest ++ drop (suc j) rest →
+    now' ≡ now ++ record { first = f.1; second = g.1 } ∷ [] → Waits first now' left right extra (drop (k + 1) left) rest'
+step_both first now now' left right extra rest rest' k j f g lt ef m at eg er ep = record {
+  pairs = m.pairs ++ record { first = f.1; second = g.1 } ∷ [];
+  behind = ep ∙ ap (λ ps. ps ++ record { first = f.1; second = g.1 } ∷ []) m.behind ∙ append_assoc first m.pairs (record { first = f.1; second = g.1 } ∷ []);
+  matching =
+      subst (λ (z : List ℕ × ℕ). Matching left right (m.pairs ++ record { first = f.1; second = z.1 } ∷ []) extra (drop (k + 1) left) rest') (sym g-is)
+      (subst (Matching left right (m.pairs ++ record { first = f.1; second = at.field.1 } ∷ []) extra (drop (k + 1) left)) (sym rest-is)
+      (matching_both left right m.pairs extra (drop (k + 1) left) at.before at.after f at.field
+      (subst (λ (todo : Fields). Matching left right m.pairs extra todo (at.before ++ at.field ∷ at.after)) (todo_is left k f lt ef)
+      (subst (Matching left right m.pairs extra (drop k left)) at.is m.matching)) at.same at.first));
+}
+  where
+    rest-is : rest' ≡ at.before ++ at.after
+    rest-is = er ∙ ap (λ l. take j l ++ drop (suc j) l) at.is
+        ∙ ap (λ n. take n (at.before ++ at.field ∷ at.after) ++ drop (suc n) (at.before ++ at.field ∷ at.after)) (sym at.place_is) ∙ (cut at.before at.after at.field g).0
+
+    g-is : g ≡ at.field
+    g-is = eg ∙ ap (λ l. get_or l j g) at.is ∙ ap (λ n. get_or (at.before ++ at.field ∷ at.after) n g) (sym at.place_is) ∙ (cut at.before at.after at.field g).1
+
+pub step_left : (first now : List Pair) (left right extra extra' rest : Fields) (k : ℕ) (f : List ℕ × ℕ) → k < length left → f ≡ get_or left k f →
+    Waits first now left right extra (drop k left) rest → Misses f.0 rest → extra' ≡ extra ++ f ∷ [] → Waits first now left right extra' (drop (k + 1) left) rest
+step_left first now left right extra extra' rest k f lt ef m new ee = record {
+  pairs = m.pairs;
+  behind = m.behind;
+  matching =
+      subst (λ (es : Fields). Matching left right m.pairs es (drop (k + 1) left) rest) (sym ee)
+      (matching_left left right m.pairs extra (drop (k + 1) left) rest f
+      (subst (λ (todo : Fields). Matching left right m.pairs extra todo rest) (todo_is left k f lt ef) m.matching) new);
 }
