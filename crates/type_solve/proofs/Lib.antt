@@ -1,2 +1,6 @@
+mod Heads
 mod Match
+mod PartLists
 mod Reading
+mod Deciding
+mod Visiting

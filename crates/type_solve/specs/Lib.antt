@@ -1,3 +1,4 @@
+pub mod Heads
 pub mod Matching
 pub mod Rests
 pub mod Steps

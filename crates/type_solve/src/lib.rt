@@ -4,6 +4,7 @@
 mod fields;
 mod no_solution;
 mod pair;
+mod parts;
 mod read;
 mod rows;
 mod step;
