@@ -1,0 +1,4 @@
+pub mod Histories
+pub mod Lists
+pub mod Solved
+pub mod Sound
