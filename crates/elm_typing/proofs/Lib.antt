@@ -1,3 +1,3 @@
-mod LabelOrder
-mod RowAlgebra
-mod RowMaps
+pub mod LabelOrder
+pub mod RowAlgebra
+pub mod RowMaps

@@ -1,9 +1,9 @@
 -- The algebra of rows with scoped labels.
-use Rattle.std.proofs.Common.{◌≡◌, ◌≢◌, ◌↔◌, ℕ, Bool, true, false, cond, Option, List, [], ◌∷◌, ◌++◌, refl, sym, ◌∙◌, ap, inl, inr}
+use Rattle.std.proofs.Common.{◌≡◌, ◌≢◌, ◌↔◌, ℕ, true, false, cond, Option, List, [], ◌∷◌, ◌++◌, refl, sym, ◌∙◌, ap, inl, inr}
 use Rattle.elm_typing.specs.Ground.{Ground, Row, Ends, Field}
 use Rattle.elm_typing.specs.Labels.{is_after}
 use Rattle.elm_typing.specs.Rows.{extended, extended_all, Lacks, Apart}
-use Rattle.elm_typing.proofs.LabelOrder.{decided, after_itself, after_asymmetric, at_most_trans, before_at_most, at_most_before, before_trans, before_differs, either_before}
+use Rattle.elm_typing.proofs.LabelOrder.{decided, after_asymmetric, at_most_trans, before_trans, before_differs, either_before}
 
 pub front : (l : List ℕ) (t : Ground) (m : List ℕ) (u : Ground) (r : Row) → is_after l m ≡ false → extended l t (Field m u r) ≡ Field l t (Field m u r)
 front l t m u r h = ap (λ b. cond b (Field m u (extended l t r)) (Field l t (Field m u r))) h

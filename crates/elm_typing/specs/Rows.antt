@@ -1,5 +1,5 @@
 -- Rows with scoped labels: of one label a row may have several fields, of which the newest hides the others.
-use Rattle.std.specs.Prelude.{◌≡◌, ◌≢◌, ℕ, Bool, false, Option, Some, None, List, [], ◌∷◌, if◌then◌else◌}
+use Rattle.std.specs.Prelude.{◌≢◌, ℕ, Option, Some, None, List, [], ◌∷◌, if◌then◌else◌}
 use Rattle.std.specs.Str.{bytes_eq}
 use Rattle.elm_typing.specs.Ground.{Ground, Row, Ends, Field}
 use Rattle.elm_typing.specs.Labels.{is_after}
