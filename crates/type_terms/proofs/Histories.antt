@@ -1,5 +1,5 @@
 -- What a history says of the present.
-use Rattle.std.proofs.Common.{◌≡◌, ℕ, zero, suc, ◌+◌, ◌-◌, ◌^◌, ◌<◌, List, [], ◌∷◌, ◌++◌, length, reverse, refl, sym, ◌∙◌, ap, subst, arith, take, set, slice_index_or, length-append, Option, Some, None, option_to_list, IsSome}
+use Rattle.std.proofs.Common.{◌≡◌, ℕ, zero, suc, ◌+◌, ◌-◌, ◌^◌, ◌<◌, ◌≤◌, List, [], ◌∷◌, ◌++◌, length, reverse, refl, sym, ◌∙◌, ap, subst, arith, take, drop, set, slice_index_or, length-append, Option, Some, None, option_to_list, IsSome}
 use Rattle.std.proofs.Math.Seq.{take-append_seam}
 use Rattle.std.proofs.lemmas.List.{length-reverse, reverse-append}
 use Rattle.type_terms.specs.declared.change.Change.{Change}
@@ -162,3 +162,11 @@ popped old new kept x (Some y) e f some = sym (without_last-append new y) ∙ ap
 pub view-popped : (nodes present : List Node) (notes : List (ℕ × ℕ)) (trail kept : List Change) (store : List State) →
     history nodes notes (reverse trail) ≡ store → present ≡ nodes → kept ≡ trail → history present notes (reverse kept) ≡ store
 view-popped nodes present notes trail kept store view e f = cc (view, e, f)
+
+-- one state less to drop
+pub back-step : {A : Type 0} (xs ys : List A) (m : ℕ) → ys ≡ drop 1 xs → m < length xs → (m ≤ length ys) × (drop (length ys - m) ys ≡ drop (length xs - m) xs)
+back-step [] ys m e lt = absurd (omega arith)
+back-step (x ∷ xs) ys m e lt =
+    let same : ys ≡ xs = e in
+    let f : suc (length xs) - m ≡ suc (length xs - m) = omega (arith, lt) in
+    (omega (arith, lt, ap length same), ap (λ l. drop (length l - m) l) same ∙ sym (ap (λ n. drop n (x ∷ xs)) f))

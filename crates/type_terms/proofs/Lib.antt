@@ -1,4 +1,8 @@
+pub mod Composed
 pub mod Histories
+pub mod Linked
 pub mod Lists
+pub mod Outcomes
+pub mod Pushed
 pub mod Solved
 pub mod Sound

@@ -97,7 +97,7 @@ impl Store {
     pub fn shape(&self, at: TermId) -> &Shape
         requires { at < length (nodes_of self.now) }
         ensures end { (end : ℕ) × LinksTo (nodes_of self.now) end at × (node_at (nodes_of self.now) end ≡ End result.now) }
-        ensures own { (shape : Shape) → node_at (nodes_of self.now) at ≡ End shape → result.now ≡ shape }
+        ensures own { (IsLink (node_at (nodes_of self.now) at) → ⊥) → node_at (nodes_of self.now) at ≡ End result.now }
         ensures inside { Each (IsBelow (length (nodes_of self.now))) (parts result.now) }
         ensures lighter { sum_of (weight self.now) (parts result.now) < weight self.now at }
         ensures sound { IsSound (nodes_of self.now) (doubled (length self.now)) }
