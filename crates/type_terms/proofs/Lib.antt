@@ -1,4 +1,5 @@
 pub mod Composed
+pub mod Existence
 pub mod Histories
 pub mod Linked
 pub mod Lists

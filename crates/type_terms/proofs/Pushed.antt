@@ -19,7 +19,7 @@ use Rattle.type_terms.proofs.Solved.{FitsNode-rest, IsOpaque, LinksTo-kept, IsRe
 use Rattle.type_terms.proofs.Composed.{Same, types_of-same, fields_of-same, with-cases}
 
 -- what is no unlinked variable stands in the store
-inside-other : (nodes : List Node) (i : ℕ) (node : Node) → (IsVariable node → ⊥) → node_at nodes i ≡ node → i < length nodes
+pub inside-other : (nodes : List Node) (i : ℕ) (node : Node) → (IsVariable node → ⊥) → node_at nodes i ≡ node → i < length nodes
 inside-other nodes i node not e =
     elim (dec_lt i (length nodes)) as (λ _. i < length nodes) [
       | yes lt ↦ lt
