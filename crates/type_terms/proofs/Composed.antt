@@ -235,8 +235,8 @@ composed-apart nodes at s chosen h same zero i apart ends = elim ends [ ]
 composed-apart nodes at s chosen h same (suc f) i apart ends =
     let ne : i ≢ at = λ (e : i ≡ at). apart (subst (StandsIn nodes at) (sym e) here) in
     node_type-same (chosen i) (composed nodes chosen f) s (node_at nodes i)
-        (Each-map_among (EndsWithin nodes f) (Same (composed nodes chosen f) s) (below (node_at nodes i))
-        (λ k m. composed-apart nodes at s chosen h same f k (λ stands. apart (within i k m stands))) ends)
+    (Each-map_among (EndsWithin nodes f) (Same (composed nodes chosen f) s) (below (node_at nodes i))
+    (λ k m. composed-apart nodes at s chosen h same f k (λ stands. apart (within i k m stands))) ends)
     ∙ ap (λ (t : Ground). node_type t s (node_at nodes i)) (same i ne)
     ∙ fits-type (IsRest nodes i) s (s i) (node_at nodes i) (h.fits i ne)
 

@@ -10,10 +10,11 @@ use Rattle.type_terms.specs.declared.node.Node.{Node}
 use Rattle.type_terms.specs.declared.node.Node.TheVariants.{End, Link}
 use Rattle.type_terms.specs.declared.shape.Shape.TheVariants as shape
 use Rattle.type_terms.specs.Terms.{node_at, below, Each, IsLink, IsRest, LinksTo, itself, further}
-use Rattle.type_terms.specs.Solutions.{Assignment, Solves, MayBeRest}
+use Rattle.type_terms.specs.Solutions.{Assignment, Solves, FitsNode, MayBeRest}
 use Rattle.type_terms.specs.Depth.{EndsWithin, IsSound}
-use Rattle.type_terms.proofs.Composed.{LeafFits, RestType, IsRecord, composed, composed-solves}
+use Rattle.type_terms.proofs.Composed.{LeafFits, RestType, IsRecord, node_type, leaf-fits, rest-type, composed, composed-is, composed-solves}
 use Rattle.type_terms.proofs.Pushed.{inside-other}
+use Rattle.type_terms.proofs.Solved.{links-same}
 use Rattle.type_terms.proofs.Sound.{links-end}
 
 -- links end
@@ -106,3 +107,56 @@ solution-exists nodes bound sound may =
     let at = λ (i : ℕ). leaf nodes bound sound i (node_at nodes i) refl (may i) in
     let chosen = λ (i : ℕ). (at i).type in
     (composed nodes chosen bound, composed-solves nodes chosen bound sound.deep (λ i. (at i).order) (λ i. (at i).fits) (λ i r. (at i).rest r))
+
+-- unflagged variables are free --
+
+pub solved-record : (nodes : List Node) (s : Assignment) (i : ℕ) → Solves nodes s → IsRest nodes i → IsRecord (s i)
+solved-record nodes s i h rest =
+    let f = subst (FitsNode (IsRest nodes rest.row) s (s rest.row)) rest.stands (h.fits rest.row) in
+    (f.0, sym (links-same nodes s i rest.rest h rest.leads) ∙ f.1)
+
+-- the type of one solution, or the one that is chosen
+record FreeLeaf (nodes : List Node) (choice : Assignment) (i : ℕ) (node : Node) : Type 0 where
+  type : Ground
+  order : InOrder type
+  fits : LeafFits (IsRest nodes i) type node
+  rest : IsRest nodes i → RestType type node
+  free : node ≡ End (shape.Variable Plain) → (IsRest nodes i → ⊥) → type ≡ choice i
+
+kept_leaf : (nodes : List Node) (one choice : Assignment) → Solves nodes one → (i : ℕ) (node : Node) → node_at nodes i ≡ node → ((node ≡ End (shape.Variable Plain)) → (IsRest nodes i → ⊥) → ⊥) → FreeLeaf nodes choice i node
+kept_leaf nodes one choice solves i node e not = record {
+  type = one i;
+  order = solves.in_order i;
+  fits = leaf-fits (IsRest nodes i) one (one i) node (subst (FitsNode (IsRest nodes i) one (one i)) e (solves.fits i));
+  rest = λ r. rest-type (IsRest nodes i) one (one i) node (subst (FitsNode (IsRest nodes i) one (one i)) e (solves.fits i)) (solved-record nodes one i solves r);
+  free = λ f r. absurd (not f r);
+}
+
+free_leaf : (nodes : List Node) (bound : ℕ) (one choice : Assignment) → IsSound nodes bound → Solves nodes one → ((i : ℕ) → InOrder (choice i)) → (i : ℕ) (node : Node) → node_at nodes i ≡ node → FreeLeaf nodes choice i node
+free_leaf nodes bound one choice sound solves order i (End (shape.Variable Plain)) e =
+    elim (rest-tells nodes bound sound i (λ l. subst IsLink e l)) as (λ _. FreeLeaf nodes choice i (End (shape.Variable Plain))) [
+      | inl r ↦ kept_leaf nodes one choice solves i (End (shape.Variable Plain)) e (λ _ not. not r)
+      | inr not ↦ record { type = choice i; order = order i; fits = tt; rest = λ r. absurd (not r); free = λ _ _. refl }
+    ]
+free_leaf nodes bound one choice sound solves order i (End (shape.Variable Comparable)) e = kept_leaf nodes one choice solves i (End (shape.Variable Comparable)) e (λ f _. cc f)
+free_leaf nodes bound one choice sound solves order i (End (shape.Variable Appendable)) e = kept_leaf nodes one choice solves i (End (shape.Variable Appendable)) e (λ f _. cc f)
+free_leaf nodes bound one choice sound solves order i (End (shape.Variable Both)) e = kept_leaf nodes one choice solves i (End (shape.Variable Both)) e (λ f _. cc f)
+free_leaf nodes bound one choice sound solves order i (End (shape.Opaque number flag)) e = kept_leaf nodes one choice solves i (End (shape.Opaque number flag)) e (λ f _. cc f)
+free_leaf nodes bound one choice sound solves order i (End (shape.Named name arguments)) e = kept_leaf nodes one choice solves i (End (shape.Named name arguments)) e (λ f _. cc f)
+free_leaf nodes bound one choice sound solves order i (End (shape.Arrow from to)) e = kept_leaf nodes one choice solves i (End (shape.Arrow from to)) e (λ f _. cc f)
+free_leaf nodes bound one choice sound solves order i (End (shape.Tuple ps)) e = kept_leaf nodes one choice solves i (End (shape.Tuple ps)) e (λ f _. cc f)
+free_leaf nodes bound one choice sound solves order i (End (shape.Row fields rest)) e = kept_leaf nodes one choice solves i (End (shape.Row fields rest)) e (λ f _. cc f)
+free_leaf nodes bound one choice sound solves order i (Link to) e = kept_leaf nodes one choice solves i (Link to) e (λ f _. cc f)
+
+pub variables-free : (nodes : List Node) (bound : ℕ) (one choice : Assignment) → IsSound nodes bound → Solves nodes one → ((i : ℕ) → InOrder (choice i)) →
+    (s : Assignment) × Solves nodes s × ((i : ℕ) → node_at nodes i ≡ End (shape.Variable Plain) → (IsRest nodes i → ⊥) → s i ≡ choice i)
+variables-free nodes bound one choice sound solves order =
+    let at = λ (i : ℕ). free_leaf nodes bound one choice sound solves order i (node_at nodes i) refl in
+    let chosen = λ (i : ℕ). (at i).type in (
+      composed nodes chosen bound,
+      composed-solves nodes chosen bound sound.deep (λ i. (at i).order) (λ i. (at i).fits) (λ i r. (at i).rest r),
+      λ i e not.
+          composed-is nodes chosen bound i (sound.deep i)
+          ∙ ap (node_type (chosen i) (composed nodes chosen bound)) e
+          ∙ (at i).free e not,
+    )

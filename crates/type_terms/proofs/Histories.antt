@@ -1,5 +1,5 @@
 -- What a history says of the present.
-use Rattle.std.proofs.Common.{◌≡◌, ℕ, zero, suc, ◌+◌, ◌-◌, ◌^◌, ◌<◌, ◌≤◌, List, [], ◌∷◌, ◌++◌, length, reverse, refl, sym, ◌∙◌, ap, subst, arith, take, drop, set, slice_index_or, length-append, Option, Some, None, option_to_list, IsSome}
+use Rattle.std.proofs.Common.{◌≡◌, ℕ, zero, suc, ◌+◌, ◌-◌, ◌^◌, ◌<◌, ◌≤◌, List, [], ◌∷◌, ◌++◌, length, reverse, refl, sym, ◌∙◌, ap, subst, arith, take, drop, set, slice_index_or, length-set, length-append, Option, Some, None, option_to_list, IsSome}
 use Rattle.std.proofs.Math.Seq.{take-append_seam}
 use Rattle.std.proofs.lemmas.List.{length-reverse, reverse-append}
 use Rattle.type_terms.specs.declared.change.Change.{Change}
@@ -11,8 +11,8 @@ use Rattle.type_terms.specs.declared.shape.Shape.{Shape}
 use Rattle.type_terms.specs.declared.shape.Shape.TheVariants as shape
 use Rattle.elm_typing.specs.declared.flag.Flag.{Flag}
 use Rattle.elm_typing.specs.declared.flag.Flag.TheVariants.{Plain}
-use Rattle.type_terms.specs.Depth.{IsBelow, IsSound, AreSound, doubled}
-use Rattle.type_terms.proofs.Sound.{sound-pushed, sound-more, sound-present}
+use Rattle.type_terms.specs.Depth.{IsBelow, IsSound, AreNotesBelow, AreSound, doubled}
+use Rattle.type_terms.proofs.Sound.{sound-pushed, sound-more, sound-present, notes-present, notes-wider, notes-more}
 use Rattle.type_terms.specs.History.{history, nodes_before, notes_before, without_last}
 
 pub nodes_of-history : (nodes : List Node) (notes : List (ℕ × ℕ)) (trail : List Change) → nodes_of (history nodes notes trail) ≡ nodes
@@ -64,15 +64,20 @@ grown nodes notes trail newer change present noted e en em =
 sound-grown : (nodes : List Node) (notes : List (ℕ × ℕ)) (trail newer : List Change) (change : Change) (present : List Node) (noted : List (ℕ × ℕ)) →
     newer ≡ trail ++ change ∷ [] → nodes_before change present ≡ nodes → notes_before change noted ≡ notes →
     AreSound (history nodes notes (reverse trail)) → IsSound present (doubled (suc (length (history nodes notes (reverse trail))))) →
-    AreSound (history present noted (reverse newer))
-sound-grown nodes notes trail newer change present noted e en em earlier now =
-    subst AreSound (sym (grown nodes notes trail newer change present noted e en em)) (now, earlier)
+    AreNotesBelow (length present) noted → AreSound (history present noted (reverse newer))
+sound-grown nodes notes trail newer change present noted e en em earlier now below =
+    subst AreSound (sym (grown nodes notes trail newer change present noted e en em)) (now, below, earlier)
 
 -- what the invariant knows of the present
 pub sound-view : (nodes : List Node) (notes : List (ℕ × ℕ)) (trail : List Change) →
     AreSound (history nodes notes (reverse trail)) → IsSound nodes (doubled (length (history nodes notes (reverse trail))))
 sound-view nodes notes trail h =
     subst (λ (ns : List Node). IsSound ns (doubled (length (history nodes notes (reverse trail))))) (nodes_of-history nodes notes (reverse trail)) (sound-present (history nodes notes (reverse trail)) h)
+
+pub notes_below-view : (nodes : List Node) (notes : List (ℕ × ℕ)) (trail : List Change) → AreSound (history nodes notes (reverse trail)) → AreNotesBelow (length nodes) notes
+notes_below-view nodes notes trail h =
+    subst (λ (ns : List Node). AreNotesBelow (length ns) notes) (nodes_of-history nodes notes (reverse trail))
+    (subst (AreNotesBelow (length (nodes_of (history nodes notes (reverse trail))))) (notes_of-history nodes notes (reverse trail)) (notes-present (history nodes notes (reverse trail)) h))
 
 pub sound-made : (nodes : List Node) (notes : List (ℕ × ℕ)) (trail newer : List Change) (present : List Node) (node : Node) →
     newer ≡ trail ++ Made ∷ [] → present ≡ nodes ++ node ∷ [] → AreSound (history nodes notes (reverse trail)) →
@@ -81,12 +86,15 @@ sound-made nodes notes trail newer present node e ep sound small inside =
     sound-grown nodes notes trail newer Made present notes e (ap without_last ep ∙ without_last-append nodes node) refl sound
     (subst (λ (ns : List Node). IsSound ns (doubled (suc (length (history nodes notes (reverse trail)))))) (sym ep)
     (sound-pushed nodes (length (history nodes notes (reverse trail))) node (sound-view nodes notes trail sound) small inside))
+    (let longer : length present ≡ length nodes + 1 = ap length ep ∙ length-append nodes (node ∷ []) in
+    notes-wider (length nodes) (length present) (omega (arith, longer)) notes (notes_below-view nodes notes trail sound))
 
 pub sound-noted : (nodes : List Node) (notes : List (ℕ × ℕ)) (trail newer : List Change) (noted : List (ℕ × ℕ)) (note : ℕ × ℕ) →
-    newer ≡ trail ++ Noted ∷ [] → noted ≡ notes ++ note ∷ [] → AreSound (history nodes notes (reverse trail)) → AreSound (history nodes noted (reverse newer))
-sound-noted nodes notes trail newer noted note e en sound =
+    newer ≡ trail ++ Noted ∷ [] → noted ≡ notes ++ note ∷ [] → AreSound (history nodes notes (reverse trail)) → note.0 < length nodes → note.1 < length nodes → AreSound (history nodes noted (reverse newer))
+sound-noted nodes notes trail newer noted note e en sound low high =
     sound-grown nodes notes trail newer Noted nodes noted e refl (ap without_last en ∙ without_last-append notes note) sound
     (sound-more nodes (length (history nodes notes (reverse trail))) (sound-view nodes notes trail sound))
+    (subst (AreNotesBelow (length nodes)) (sym en) (notes-more (length nodes) notes note (notes_below-view nodes notes trail sound) low high))
 
 set-twice : (nodes : List Node) (at : ℕ) (node old : Node) → node_at nodes at ≡ old → at < length nodes → set (set nodes at node) at old ≡ nodes
 set-twice [] at node old e lt = refl
@@ -108,6 +116,7 @@ sound-rewritten nodes notes trail newer at flag node store view e sound lt varia
     (variable-back nodes at flag node (subst (λ (ns : List Node). at < length ns) en lt) (subst (λ (ns : List Node). node_at ns at ≡ End (shape.Variable flag)) en variable)) refl sound
     (subst (λ (ns : List Node). IsSound (set ns at node) (doubled (suc (length (history nodes notes (reverse trail)))))) en
     (subst (λ (h : List State). IsSound (set (nodes_of store) at node) (doubled (suc (length h)))) (sym view) now))
+    (subst (λ (n : ℕ). AreNotesBelow n notes) (sym (length-set nodes at node)) (notes_below-view nodes notes trail sound))
 
 -- the new state, as contracts say it --
 

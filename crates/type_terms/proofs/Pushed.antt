@@ -111,9 +111,9 @@ pushed-back nodes bound form s sound inside adds h fit = record {
   in_order = h.in_order;
   fits = by_place (λ i node. FitsNode (IsRest (nodes ++ End form ∷ []) i) s (s i) node) nodes (End form)
       (λ i lt. FitsNode-rest (IsRest nodes i) (IsRest (nodes ++ End form ∷ []) i) s (s i) (node_at nodes i)
-          (λ _ r. rest-kept nodes (End form) i r) (λ opaque r. rest-pushed nodes form i adds opaque r) (h.fits i))
+      (λ _ r. rest-kept nodes (End form) i r) (λ opaque r. rest-pushed nodes form i adds opaque r) (h.fits i))
       (FitsNode-rest ⊥ (IsRest (nodes ++ End form ∷ []) (length nodes)) s (s (length nodes)) (End form)
-          (λ _ r. absurd r) (λ _ r. new-no_rest nodes bound form sound inside r) fit)
+      (λ _ r. absurd r) (λ _ r. new-no_rest nodes bound form sound inside r) fit)
       (λ _. tt);
 }
 

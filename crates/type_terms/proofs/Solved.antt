@@ -155,7 +155,7 @@ pub rest-linked : (nodes : List Node) (at to i : ℕ) → at < length nodes → 
     IsOpaque (node_at nodes i) → IsRest (set nodes at (Link to)) i → IsRest nodes i
 rest-linked nodes at to i lt apart keeps opaque h =
     let row : (h.row ≢ at) × (node_at nodes h.row ≡ End (shape.Row h.fields (Some h.rest))) =
-        kept-set nodes at h.row (Link to) (End (shape.Row h.fields (Some h.rest))) lt (λ e. cc e) h.stands in
+    kept-set nodes at h.row (Link to) (End (shape.Row h.fields (Some h.rest))) lt (λ e. cc e) h.stands in
     elim (links-before nodes at to i h.rest lt h.leads) as (λ _. IsRest nodes i) [
       | inl leads ↦ record { row = h.row; fields = h.fields; rest = h.rest; stands = row.1; leads = leads }
       | inr both ↦ was (node_at nodes i) refl opaque (keeps (record { row = h.row; fields = h.fields; rest = h.rest; stands = row.1; leads = both.0 })) (links-apart nodes at to i to apart both.1)
@@ -169,4 +169,3 @@ rest-linked nodes at to i lt apart keeps opaque h =
     was (End (shape.Tuple ps)) e o no_new leads = absurd o
     was (End (shape.Row fields rest)) e o no_new leads = absurd o
     was (Link j) e o no_new leads = absurd o
-

@@ -9,8 +9,8 @@ use Rattle.type_terms.specs.declared.node.Node.{Node}
 use Rattle.type_terms.specs.declared.node.Node.TheVariants.{End, Link}
 use Rattle.type_terms.specs.declared.shape.Shape.{Shape}
 use Rattle.type_terms.specs.declared.shape.Shape.TheVariants as shape
-use Rattle.type_terms.specs.Terms.{State, nodes_of, node_at, parts, below, Each, Among, IsLink, LinksTo, itself, further, StandsIn, here, within}
-use Rattle.type_terms.specs.Depth.{EndsWithin, doubled, IsBelow, IsSound, AreSound, sum_of, size, weight}
+use Rattle.type_terms.specs.Terms.{State, nodes_of, notes_of, node_at, parts, below, Each, Among, IsLink, LinksTo, itself, further, StandsIn, here, within}
+use Rattle.type_terms.specs.Depth.{EndsWithin, doubled, IsBelow, IsSound, AreNotesBelow, AreSound, sum_of, size, weight}
 use Rattle.type_terms.proofs.Lists.{Each-map, Each-map_among, Each-at, sum_of-same, among-sum_of}
 
 pub EndsWithin-more : (nodes : List Node) (f g i : ℕ) → f ≤ g → EndsWithin nodes f i → EndsWithin nodes g i
@@ -167,6 +167,18 @@ sound-empty = record { deep = λ _. tt; inside = λ _. tt; small = lit< tt }
 pub sound-present : (store : List State) → AreSound store → IsSound (nodes_of store) (doubled (length store))
 sound-present [] h = sound-empty
 sound-present (present ∷ earlier) h = h.0
+
+pub notes-present : (store : List State) → AreSound store → AreNotesBelow (length (nodes_of store)) (notes_of store)
+notes-present [] h = tt
+notes-present (present ∷ earlier) h = h.1
+
+pub notes-wider : (n m : ℕ) → n ≤ m → (notes : List (ℕ × ℕ)) → AreNotesBelow n notes → AreNotesBelow m notes
+notes-wider n m le [] h = tt
+notes-wider n m le (note ∷ notes) h = (omega (arith, le, h.0), omega (arith, le, h.1), notes-wider n m le notes h.2)
+
+pub notes-more : (n : ℕ) (notes : List (ℕ × ℕ)) (note : ℕ × ℕ) → AreNotesBelow n notes → note.0 < n → note.1 < n → AreNotesBelow n (notes ++ note ∷ [])
+notes-more n [] note h a b = (a, b, tt)
+notes-more n (m ∷ notes) note h a b = (h.0, h.1, notes-more n notes note h.2 a b)
 
 -- in a sound store what stands directly in a term is lighter --
 

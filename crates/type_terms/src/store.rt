@@ -8,7 +8,7 @@ ghost use Rattle.type_terms.specs.declared.shape.Shape.{Shape};
 ghost use Rattle.type_terms.specs.declared.shape.Shape.TheVariants as shape;
 ghost use Rattle.type_terms.specs.Terms.{State, nodes_of, notes_of, node_at, parts, Each, IsLink, IsVariable, IsRest, LinksTo, StandsIn, unlinked};
 ghost use Rattle.type_terms.specs.Solutions.{Assignment, Fits, Solves, IsNoNewRest, AddsNoRest, with_type};
-ghost use Rattle.type_terms.specs.Depth.{IsBelow, IsSound, doubled, sum_of, weight};
+ghost use Rattle.type_terms.specs.Depth.{AreNotesBelow, IsBelow, IsSound, doubled, sum_of, weight};
 
 use crate::TermId;
 use crate::change::Change;
@@ -175,9 +175,18 @@ impl Store {
 
     /// All notes, in the order in which they were written.
     pub fn notes(&self) -> &[(TermId, TermId)]
-        ensures { result.now ≡ notes_of self.now }
+        ensures notes { result.now ≡ notes_of self.now }
+        ensures inside { AreNotesBelow (length (nodes_of self.now)) result.now }
     {
         self.notes.as_slice()
+    }
+
+    /// How many terms the store has.
+    pub fn terms(&self) -> usize
+        ensures count { result ≡ length (nodes_of self.now) }
+        ensures sound { IsSound (nodes_of self.now) (doubled (length self.now)) }
+    {
+        self.nodes.len()
     }
 
     // How many changes stand.

@@ -14,9 +14,9 @@ returns-clause-solutions c =
     (c.add.new.self ≡ record { nodes = nodes_of c.args.self.now ++ End c.args.shape ∷ []; notes = notes_of c.args.self.now } ∷ c.args.self.now)
     (λ at. AddsNoRest (nodes_of c.args.self.now) c.args.shape → (s : Assignment) → Solves (nodes_of c.add.new.self) s ↔ (Solves (nodes_of c.args.self.now) s × Fits ⊥ s (s at) c.args.shape))
     (λ at place state adds s.
-      subst (λ (h : List State). Solves (nodes_of h) s ↔ (Solves (nodes_of c.args.self.now) s × Fits ⊥ s (s at) c.args.shape)) (sym state)
-      (subst (λ (n : ℕ). Solves (nodes_of c.args.self.now ++ End c.args.shape ∷ []) s ↔ (Solves (nodes_of c.args.self.now) s × Fits ⊥ s (s n) c.args.shape)) (sym place)
-      (solves-pushed (nodes_of c.args.self.now) _ c.args.shape s c.add.ensures.sound c.requires adds)))
+    subst (λ (h : List State). Solves (nodes_of h) s ↔ (Solves (nodes_of c.args.self.now) s × Fits ⊥ s (s at) c.args.shape)) (sym state)
+    (subst (λ (n : ℕ). Solves (nodes_of c.args.self.now ++ End c.args.shape ∷ []) s ↔ (Solves (nodes_of c.args.self.now) s × Fits ⊥ s (s n) c.args.shape)) (sym place)
+    (solves-pushed (nodes_of c.args.self.now) _ c.args.shape s c.add.ensures.sound c.requires adds)))
     c.add.ensures.place c.add.ensures.state
 
 pub returns-clause-extends : goal.returns-clause-extends
@@ -25,7 +25,7 @@ returns-clause-extends c =
     (c.add.new.self ≡ record { nodes = nodes_of c.args.self.now ++ End c.args.shape ∷ []; notes = notes_of c.args.self.now } ∷ c.args.self.now)
     (λ at. AddsNoRest (nodes_of c.args.self.now) c.args.shape → (s : Assignment) (type : Ground) → Solves (nodes_of c.args.self.now) s → Fits ⊥ s type c.args.shape → InOrder type → Solves (nodes_of c.add.new.self) (with_type s at type))
     (λ at place state adds s type h fit order.
-      subst (λ (l : List State). Solves (nodes_of l) (with_type s at type)) (sym state)
-      (subst (λ (n : ℕ). Solves (nodes_of c.args.self.now ++ End c.args.shape ∷ []) (with_type s n type)) (sym place)
-      (solves-extended (nodes_of c.args.self.now) _ c.args.shape s type c.add.ensures.sound c.requires adds h fit order)))
+    subst (λ (l : List State). Solves (nodes_of l) (with_type s at type)) (sym state)
+    (subst (λ (n : ℕ). Solves (nodes_of c.args.self.now ++ End c.args.shape ∷ []) (with_type s n type)) (sym place)
+    (solves-extended (nodes_of c.args.self.now) _ c.args.shape s type c.add.ensures.sound c.requires adds h fit order)))
     c.add.ensures.place c.add.ensures.state

@@ -19,6 +19,6 @@ returns-clause-solutions c =
     (c.rewrite.new.self ≡ record { nodes = set (nodes_of c.args.self.now) c.args.at (End (shape.Variable c.joined-flag.result)); notes = notes_of c.args.self.now } ∷ c.args.self.now)
     ((s : Assignment) → Solves (nodes_of c.rewrite.new.self) s ↔ (Solves (nodes_of c.args.self.now) s × HasFlag c.args.flag (s c.args.at)))
     (λ state s.
-      subst (λ (h : List State). Solves (nodes_of h) s ↔ (Solves (nodes_of c.args.self.now) s × HasFlag c.args.flag (s c.args.at))) (sym state)
-      (solves-narrowed (nodes_of c.args.self.now) c.args.at c.flag-had.result c.args.flag c.joined-flag.result s c.requires.inside c.flag-had.ensures.flag c.joined-flag.ensures.types))
+    subst (λ (h : List State). Solves (nodes_of h) s ↔ (Solves (nodes_of c.args.self.now) s × HasFlag c.args.flag (s c.args.at))) (sym state)
+    (solves-narrowed (nodes_of c.args.self.now) c.args.at c.flag-had.result c.args.flag c.joined-flag.result s c.requires.inside c.flag-had.ensures.flag c.joined-flag.ensures.types))
     c.rewrite.ensures.state
