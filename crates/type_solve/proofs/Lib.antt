@@ -1,1 +1,2 @@
 mod Match
+mod Reading

@@ -7,7 +7,9 @@ use Rattle.type_solve.specs.declared.pair.Pair.{Pair}
 use Rattle.type_solve.specs.Matching.{Fields, Misses, Disjoint, StandsFirst, AllEqual, terms_in, Matches}
 use Rattle.type_terms.specs.Depth.{sum_of}
 use Rattle.type_terms.specs.Solutions.{Assignment, fields_of}
-use Rattle.type_terms.specs.Terms.{terms_of}
+use Rattle.type_terms.specs.declared.node.Node.{Node}
+use Rattle.type_terms.specs.Terms.{terms_of, Each}
+use Rattle.type_solve.specs.Rests.{IsType}
 
 -- as Matches, where todo is still to be looked at
 pub record Matching (left right : Fields) (pairs : List Pair) (extra todo rest : Fields) : Type 0 where
@@ -19,6 +21,20 @@ pub record Matching (left right : Fields) (pairs : List Pair) (extra todo rest :
       → extended_all (fields_of s left) r ≡ extended_all (fields_of s right) q
   pub terms : (w : ℕ → ℕ) → sum_of w (terms_in pairs) + sum_of w (terms_of extra) + sum_of w (terms_of todo) + sum_of w (terms_of rest)
       ≡ sum_of w (terms_of left) + sum_of w (terms_of right)
+  pub types : (nodes : List Node) → Each (IsType nodes) (terms_of left) → Each (IsType nodes) (terms_of right)
+      → Each (IsType nodes) (terms_in pairs) × Each (IsType nodes) (terms_of extra) × Each (IsType nodes) (terms_of todo) × Each (IsType nodes) (terms_of rest)
+
+pub each_append : (P : ℕ → Type 0) (fs gs : Fields) → Each P (terms_of fs) → Each P (terms_of gs) → Each P (terms_of (fs ++ gs))
+each_append P [] gs h k = k
+each_append P (f ∷ fs) gs h k = (h.0, each_append P fs gs h.1 k)
+
+each_without : (P : ℕ → Type 0) (before after : Fields) (g : List ℕ × ℕ) → Each P (terms_of (before ++ g ∷ after)) → P g.1 × Each P (terms_of (before ++ after))
+each_without P [] after g h = h
+each_without P (f ∷ before) after g h = let r = each_without P before after g h.1 in (r.0, (h.0, r.1))
+
+each_pushed : (P : ℕ → Type 0) (ps : List Pair) (p : Pair) → Each P (terms_in ps) → P p.first → P p.second → Each P (terms_in (ps ++ p ∷ []))
+each_pushed P [] p h a b = (a, (b, tt))
+each_pushed P (q ∷ ps) p h a b = (h.0, (h.1.0, each_pushed P ps p h.1.1 a b))
 
 fields_of-append : (s : Assignment) (fs gs : Fields) → fields_of s (fs ++ gs) ≡ fields_of s fs ++ fields_of s gs
 fields_of-append s [] gs = refl
@@ -70,10 +86,11 @@ matching_none left right = record {
   to = λ s r q e. (tt, e);
   back = λ s r q h e. e;
   terms = λ w. omega arith;
+  types = λ nodes l r. (tt, tt, l, r);
 }
 
 matching_all : (left right : Fields) (pairs : List Pair) (extra rest : Fields) → Matching left right pairs extra [] rest → Matches left right pairs extra rest
-matching_all left right pairs extra rest m = record { apart = m.apart; to = m.to; back = m.back; terms = λ w. let t = m.terms w in omega (arith, t) }
+matching_all left right pairs extra rest m = record { apart = m.apart; to = m.to; back = m.back; terms = λ w. let t = m.terms w in omega (arith, t); types = λ nodes l r. let t = m.types nodes l r in (t.0, t.1, t.3) }
 
 -- a field that both have
 matching_both : (left right : Fields) (pairs : List Pair) (extra todo before after : Fields) (f g : List ℕ × ℕ) →
@@ -85,6 +102,8 @@ matching_both left right pairs extra todo before after f g m e first = record {
   back = λ s r q h x. let y = equal_front s pairs (record { first = f.1; second = g.1 }) h in m.back s r q y.0 ((step s r q).1 (y.1, x));
   terms = λ w. let t = m.terms w in let a = sum_of-pushed w pairs (record { first = f.1; second = g.1 }) in
       let b = sum_of-append w before after in let c = sum_of-append w before (g ∷ after) in omega (arith, t, a, b, c);
+  types = λ nodes l r. let t = m.types nodes l r in let u = each_without (IsType nodes) before after g t.3 in
+      (each_pushed (IsType nodes) pairs (record { first = f.1; second = g.1 }) t.0 t.2.0 u.0, t.1, t.2.1, u.1);
 }
   where
     step : (s : Assignment) (r q : Row) → (extended_all (fields_of s extra) (extended f.0 (s f.1) (extended_all (fields_of s todo) r)) ≡ extended_all (fields_of s (before ++ g ∷ after)) q)
@@ -107,6 +126,7 @@ matching_left left right pairs extra todo rest f m new = record {
   to = λ s r q x. let y = m.to s r q x in (y.0, move s r ∙ y.1);
   back = λ s r q h x. m.back s r q h (sym (move s r) ∙ x);
   terms = λ w. let t = m.terms w in let a = sum_of-append w extra (f ∷ []) in omega (arith, t, a);
+  types = λ nodes l r. let t = m.types nodes l r in (t.0, each_append (IsType nodes) extra (f ∷ []) t.1 (t.2.0, tt), t.2.1, t.3);
 }
   where
     move : (s : Assignment) (r : Row) → extended_all (fields_of s (extra ++ f ∷ [])) (extended_all (fields_of s todo) r) ≡ extended_all (fields_of s extra) (extended f.0 (s f.1) (extended_all (fields_of s todo) r))

@@ -5,7 +5,9 @@ use Rattle.elm_typing.specs.Rows.{extended_all}
 use Rattle.type_solve.specs.declared.pair.Pair.{Pair}
 use Rattle.type_terms.specs.Depth.{sum_of}
 use Rattle.type_terms.specs.Solutions.{Assignment, fields_of}
+use Rattle.type_terms.specs.declared.node.Node.{Node}
 use Rattle.type_terms.specs.Terms.{terms_of, Each}
+use Rattle.type_solve.specs.Rests.{IsType}
 
 -- labels with terms, of one label the newest first
 abbrev pub Fields : Type 0
@@ -51,5 +53,7 @@ pub record Matches (left right : Fields) (pairs : List Pair) (extra rest : Field
       → AllEqual s pairs × (extended_all (fields_of s extra) r ≡ extended_all (fields_of s rest) q)
   pub back : (s : Assignment) (r q : Row) → AllEqual s pairs → extended_all (fields_of s extra) r ≡ extended_all (fields_of s rest) q
       → extended_all (fields_of s left) r ≡ extended_all (fields_of s right) q
-  -- each term of the rows stands in a pair or is left over
+  -- each term of the rows stands in a pair or is left over, and no other does
   pub terms : (w : ℕ → ℕ) → sum_of w (terms_in pairs) + sum_of w (terms_of extra) + sum_of w (terms_of rest) ≡ sum_of w (terms_of left) + sum_of w (terms_of right)
+  pub types : (nodes : List Node) → Each (IsType nodes) (terms_of left) → Each (IsType nodes) (terms_of right)
+      → Each (IsType nodes) (terms_in pairs) × Each (IsType nodes) (terms_of extra) × Each (IsType nodes) (terms_of rest)

@@ -4,5 +4,8 @@
 mod fields;
 mod no_solution;
 mod pair;
+mod read;
+mod rows;
+mod step;
 
 pub use no_solution::NoSolution;
