@@ -21,10 +21,18 @@ pub record IsSound (nodes : List Node) (bound : ℕ) : Type 0 where
   pub inside : (i : ℕ) → Each (IsBelow (length nodes)) (below (node_at nodes i))
   pub small : length nodes < 2 ^ 32
 
+-- the terms of each note stand in the store
+abbrev pub AreNotesBelow : ℕ → List (ℕ × ℕ) → Type 0
+AreNotesBelow n [] = Unit {0}
+AreNotesBelow n (note ∷ notes) = (note.0 < n) × (note.1 < n) × AreNotesBelow n notes
+
 -- each state is sound
 abbrev pub AreSound : List State → Type 0
 AreSound [] = Unit {0}
-AreSound (state ∷ earlier) = IsSound state.nodes (doubled (length (state ∷ earlier))) × AreSound earlier
+AreSound (state ∷ earlier) =
+    IsSound state.nodes (doubled (length (state ∷ earlier)))
+    × AreNotesBelow (length state.nodes) state.notes
+    × AreSound earlier
 
 abbrev pub sum_of : (ℕ → ℕ) → List ℕ → ℕ
 sum_of f [] = 0

@@ -1,6 +1,7 @@
 -- What a store means: the assignments of ground types to its terms that respect shapes, links and flags.
 use Rattle.std.specs.Prelude.{◌≡◌, ℕ, List, [], ◌∷◌, Option, Some, None, ◌==◌, if◌then◌else◌}
 use Rattle.elm_typing.specs.declared.flag.Flag.{Flag}
+use Rattle.elm_typing.specs.declared.flag.Flag.TheVariants.{Plain}
 use Rattle.elm_typing.specs.Flags.{HasFlag}
 use Rattle.elm_typing.specs.Ground.{Ground, Grounds, Row, Named, Function, Tuple, Record, Opaque, NoGrounds, AndGround, Ends}
 use Rattle.elm_typing.specs.Ordered.{InOrder}
@@ -53,6 +54,14 @@ IsNoNewRest nodes i =
 abbrev pub AddsNoRest : List Node → Shape → Type 0
 AddsNoRest nodes (shape.Row fields (Some rest)) = IsNoNewRest nodes rest
 AddsNoRest nodes _ = Unit {0}
+
+-- what the rest of a row may be, where the store is to have a solution
+abbrev pub MayBeRest : Node → Type 0
+MayBeRest (Link to) = Unit {0}
+MayBeRest (End (shape.Row fields rest)) = Unit {0}
+MayBeRest (End (shape.Variable Plain)) = Unit {0}
+MayBeRest (End (shape.Opaque number Plain)) = Unit {0}
+MayBeRest _ = ⊥
 
 -- one term has another type
 abbrev pub with_type : Assignment → ℕ → Ground → Assignment

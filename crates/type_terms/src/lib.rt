@@ -3,11 +3,13 @@
 #![tactic(auto)]
 
 mod change;
+mod laws;
 mod node;
 mod shape;
 mod store;
 
 pub use elm_typing::Flag;
+pub use laws::{unflagged_variables_are_free, well_formed_rows_have_a_solution};
 pub use node::Node;
 pub use shape::Shape;
 pub use store::{Store, StoreMark};

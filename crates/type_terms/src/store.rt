@@ -1,4 +1,4 @@
-ghost use Rattle.std.specs.Prelude.{◌≡◌, ℕ, ◌+◌, ◌-◌, ◌<◌, ◌≤◌, ◌↔◌, List, [], ◌∷◌, ◌++◌, length, drop, slice_set, reverse, IfOk, OnOk, OnErr};
+ghost use Rattle.std.specs.Prelude.{◌≡◌, ℕ, suc, ◌+◌, ◌-◌, ◌<◌, ◌≤◌, ◌↔◌, List, [], ◌∷◌, ◌++◌, length, drop, slice_set, reverse, IfOk, OnOk, OnErr};
 ghost use Rattle.elm_typing.specs.declared.flag.Flag.{Flag};
 ghost use Rattle.elm_typing.specs.Flags.{HasFlag, joined};
 ghost use Rattle.elm_typing.specs.Ground.{Ground};
@@ -8,7 +8,7 @@ ghost use Rattle.type_terms.specs.declared.shape.Shape.{Shape};
 ghost use Rattle.type_terms.specs.declared.shape.Shape.TheVariants as shape;
 ghost use Rattle.type_terms.specs.Terms.{State, nodes_of, notes_of, node_at, parts, Each, IsLink, IsVariable, IsRest, LinksTo, StandsIn, unlinked};
 ghost use Rattle.type_terms.specs.Solutions.{Assignment, Fits, Solves, IsNoNewRest, AddsNoRest, with_type};
-ghost use Rattle.type_terms.specs.Depth.{AreSound, IsBelow, sum_of, weight};
+ghost use Rattle.type_terms.specs.Depth.{AreNotesBelow, IsBelow, IsSound, doubled, sum_of, weight};
 
 use crate::TermId;
 use crate::change::Change;
@@ -90,27 +90,19 @@ impl Store {
         ensures extends { IfOk result (λ at. AddsNoRest (nodes_of self.old) shape → (s : Assignment) (type : Ground) → Solves (nodes_of self.old) s → Fits ⊥ s type shape → InOrder type → Solves (nodes_of self.new) (with_type s at type)) }
         ensures refused { OnErr result (self.new ≡ self.old) }
     {
-        let at = self.nodes.len();
-        if at >= 0xffff_ffff {
-            return Err(NoMemory);
-        }
-        self.trail.push(Change::Made)?;
-        if self.nodes.push(Node::End(shape)).is_err() {
-            self.trail.pop();
-            return Err(NoMemory);
-        }
-        Ok(at as TermId)
+        self.add(shape)
     }
 
     /// What the term is: the shape at the end of its links.
     pub fn shape(&self, at: TermId) -> &Shape
         requires { at < length (nodes_of self.now) }
         ensures end { (end : ℕ) × LinksTo (nodes_of self.now) end at × (node_at (nodes_of self.now) end ≡ End result.now) }
-        ensures own { (shape : Shape) → node_at (nodes_of self.now) at ≡ End shape → result.now ≡ shape }
+        ensures own { (IsLink (node_at (nodes_of self.now) at) → ⊥) → node_at (nodes_of self.now) at ≡ End result.now }
         ensures inside { Each (IsBelow (length (nodes_of self.now))) (parts result.now) }
         ensures lighter { sum_of (weight self.now) (parts result.now) < weight self.now at }
+        ensures sound { IsSound (nodes_of self.now) (doubled (length self.now)) }
     {
-        match &self.nodes[at as usize] {
+        match self.node(at) {
             Node::End(shape) => shape,
             Node::Link(to) => self.shape(*to),
         }
@@ -124,9 +116,10 @@ impl Store {
         ensures inside { result < length (nodes_of self.now) }
         ensures same { (s : Assignment) → Solves (nodes_of self.now) s → s at ≡ s result }
         ensures lighter { weight self.now result ≤ weight self.now at }
+        ensures sound { IsSound (nodes_of self.now) (doubled (length self.now)) }
     {
         let mut end = at;
-        while let Node::Link(to) = &self.nodes[end as usize] {
+        while let Node::Link(to) = self.node(end) {
             end = *to;
         }
         end
@@ -140,13 +133,9 @@ impl Store {
         ensures solutions { OnOk result ((s : Assignment) → Solves (nodes_of self.new) s ↔ (Solves (nodes_of self.old) s × HasFlag flag (s at))) }
         ensures refused { OnErr result (self.new ≡ self.old) }
     {
-        if let Node::End(Shape::Variable { flag: had }) = &self.nodes[at as usize] {
-            let had = *had;
-            self.trail.push(Change::WasVariable { at, flag: had })?;
-            let flag = had.joined(flag);
-            self.nodes[at as usize] = Node::End(Shape::Variable { flag });
-        }
-        Ok(())
+        let had = self.flag(at);
+        let flag = had.joined(flag);
+        self.rewrite(at, had, Node::End(Shape::Variable { flag }))
     }
 
     /// The variable `at` stands for what `to` stands for.
@@ -163,12 +152,8 @@ impl Store {
         ensures fewer { OnOk result (unlinked (nodes_of self.new) + 1 ≡ unlinked (nodes_of self.old)) }
         ensures refused { OnErr result (self.new ≡ self.old) }
     {
-        if let Node::End(Shape::Variable { flag }) = &self.nodes[at as usize] {
-            let flag = *flag;
-            self.trail.push(Change::WasVariable { at, flag })?;
-            self.nodes[at as usize] = Node::Link(to);
-        }
-        Ok(())
+        let flag = self.flag(at);
+        self.rewrite(at, flag, Node::Link(to))
     }
 
     /// Notes that the sort of `a` is at most that of `b`.
@@ -179,25 +164,93 @@ impl Store {
         ensures refused { OnErr result (self.new ≡ self.old) }
     {
         self.trail.push(Change::Noted)?;
-        if self.notes.push((a, b)).is_err() {
-            self.trail.pop();
-            return Err(NoMemory);
+        match self.notes.push((a, b)) {
+            Ok(()) => Ok(()),
+            Err(_) => {
+                self.trail.pop();
+                Err(NoMemory)
+            }
         }
-        Ok(())
     }
 
     /// All notes, in the order in which they were written.
     pub fn notes(&self) -> &[(TermId, TermId)]
-        ensures { result.now ≡ notes_of self.now }
+        ensures notes { result.now ≡ notes_of self.now }
+        ensures inside { AreNotesBelow (length (nodes_of self.now)) result.now }
     {
         self.notes.as_slice()
     }
 
-    // how many changes stand
+    /// How many terms the store has.
+    pub fn terms(&self) -> usize
+        ensures count { result ≡ length (nodes_of self.now) }
+        ensures sound { IsSound (nodes_of self.now) (doubled (length self.now)) }
+    {
+        self.nodes.len()
+    }
+
+    // How many changes stand.
     fn changes(&self) -> usize
-        ensures { length self.now ≡ result + 1 }
+        ensures count { length self.now ≡ result + 1 }
+        ensures sound { IsSound (nodes_of self.now) (doubled (length self.now)) }
     {
         self.trail.len()
+    }
+
+    fn node(&self, at: TermId) -> &Node
+        requires { at < length (nodes_of self.now) }
+        ensures node { result.now ≡ node_at (nodes_of self.now) at }
+        ensures sound { IsSound (nodes_of self.now) (doubled (length self.now)) }
+    {
+        &self.nodes[at as usize]
+    }
+
+    // The flag of an unlinked variable.
+    fn flag(&self, at: TermId) -> Flag
+        requires inside { at < length (nodes_of self.now) }
+        requires variable { IsVariable (node_at (nodes_of self.now) at) }
+        ensures flag { node_at (nodes_of self.now) at ≡ End (shape.Variable result) }
+        ensures sound { IsSound (nodes_of self.now) (doubled (length self.now)) }
+    {
+        match self.node(at) {
+            Node::End(Shape::Variable { flag }) => *flag,
+            _ => unreachable!(),
+        }
+    }
+
+    // A term more.
+    fn add(&mut self, shape: Shape) -> Result<TermId, NoMemory>
+        requires { Each (IsBelow (length (nodes_of self.old))) (parts shape) }
+        ensures place { IfOk result (λ at. at ≡ length (nodes_of self.old)) }
+        ensures state { OnOk result (self.new ≡ record { nodes = nodes_of self.old ++ End shape ∷ []; notes = notes_of self.old } ∷ self.old) }
+        ensures sound { IsSound (nodes_of self.old) (doubled (length self.old)) }
+        ensures refused { OnErr result (self.new ≡ self.old) }
+    {
+        let at = self.nodes.len();
+        if at >= 0xffff_ffff {
+            return Err(NoMemory);
+        }
+        self.trail.push(Change::Made)?;
+        match self.nodes.push(Node::End(shape)) {
+            Ok(()) => Ok(at as TermId),
+            Err(_) => {
+                self.trail.pop();
+                Err(NoMemory)
+            }
+        }
+    }
+
+    // The variable `at` with this flag becomes the node.
+    fn rewrite(&mut self, at: TermId, flag: Flag, node: Node) -> Result<(), NoMemory>
+        requires inside { at < length (nodes_of self.old) }
+        requires variable { node_at (nodes_of self.old) at ≡ End (shape.Variable flag) }
+        requires sound { IsSound (slice_set (nodes_of self.old) at node) (doubled (suc (length self.old))) }
+        ensures state { OnOk result (self.new ≡ record { nodes = slice_set (nodes_of self.old) at node; notes = notes_of self.old } ∷ self.old) }
+        ensures refused { OnErr result (self.new ≡ self.old) }
+    {
+        self.trail.push(Change::WasVariable { at, flag })?;
+        self.nodes[at as usize] = node;
+        Ok(())
     }
 
     /// The present moment, to go back to.
