@@ -20,14 +20,14 @@ visit-requires-clause-second c =
 pub pairs-smaller : goal.pairs-smaller
 pairs-smaller c = waits_lighter _ _ _ _ c.in-Some.pair _ _ _ c.in-Some.ensures
     (record { first = c.find-a.ensures.leads; second = c.find-b.ensures.leads; first_lighter = c.find-a.ensures.lighter; second_lighter = c.find-b.ensures.lighter })
-    c.in_ok-visit.ensures
+    c.in_ok-step.ensures
 
 pub pairs-preserved : goal.pairs-preserved
 pairs-preserved c = goes_on _ _ _ _ _ c.in-Some.pair _ _ _ c.pairs.invariant c.in-Some.ensures
     (record { first = c.find-a.ensures.leads; second = c.find-b.ensures.leads; first_lighter = c.find-a.ensures.lighter; second_lighter = c.find-b.ensures.lighter })
-    c.in_ok-visit.ensures c.in-Done.is
+    c.in_ok-step.ensures c.in-Done.is
 
 pub returns-in_default-2 : goal.returns-in_default-2
 returns-in_default-2 c = stops_at _ _ _ _ _ c.in-Some.pair _ _ _ c.pairs.invariant c.in-Some.ensures
     (record { first = c.find-a.ensures.leads; second = c.find-b.ensures.leads; first_lighter = c.find-a.ensures.lighter; second_lighter = c.find-b.ensures.lighter })
-    c.in_ok-visit.ensures ?
+    c.in_ok-step.ensures c.in_default-2.not-Done
