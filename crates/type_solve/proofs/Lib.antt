@@ -1,6 +1,9 @@
 mod Heads
 mod Match
 mod PartLists
+mod Narrowing
 mod Reading
+mod Asking
 mod Deciding
+mod Standing
 mod Visiting

@@ -1,3 +1,5 @@
+pub mod Flagged
+pub mod Grown
 pub mod Heads
 pub mod Matching
 pub mod Rests

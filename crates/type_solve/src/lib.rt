@@ -2,7 +2,9 @@
 #![tactic(auto)]
 
 mod fields;
+mod flags;
 mod no_solution;
+mod occurs;
 mod pair;
 mod parts;
 mod read;
