@@ -4,6 +4,7 @@ mod PartLists
 mod Narrowing
 mod Reading
 mod Asking
+mod Binding
 mod Deciding
 mod Standing
 mod Visiting

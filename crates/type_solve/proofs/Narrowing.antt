@@ -15,6 +15,8 @@ use Rattle.type_solve.specs.declared.flags.Demand.{Demand}
 use Rattle.type_solve.specs.Flagged.{AllHave, StandWithin, Demands, OnlyNarrows, Narrows}
 use Rattle.type_solve.specs.Grown.{IsGrown}
 use Rattle.type_solve.specs.Rests.{IsBare, IsNoRest, type_parts, RestsApart, IsType}
+use Rattle.type_solve.specs.declared.rows.Tail.TheVariants.{Open}
+use Rattle.type_solve.specs.Steps.{IsRow, IsTail}
 use Rattle.type_solve.proofs.Asking.{within_front, have_front}
 
 pub grown_none : (store : List State) → IsGrown store store
@@ -93,7 +95,7 @@ narrowing_variable old now at flag left rest d n e =
     let long = n.kept.long in let t = w.1.0 in
     (omega (arith, long, t), variable_kept (nodes_of old) (nodes_of now) at d.at n.kept w.0)
 
-variable_flag : (n : Node) → IsVariable n → (had : Flag) × (n ≡ End (shape.Variable had))
+pub variable_flag : (n : Node) → IsVariable n → (had : Flag) × (n ≡ End (shape.Variable had))
 variable_flag (End (shape.Variable f)) v = (f, refl)
 variable_flag (End (shape.Opaque n g)) v = absurd v
 variable_flag (End (shape.Named n xs)) v = absurd v
@@ -147,7 +149,7 @@ narrowed_rest old new at i k r = IsRest-kept new old i
       | inr w ↦ absurd (no_row_variable (node_at new j) fields (Some rest) w.1 e)
     ]) r
 
-variable_bare : (n : Node) → IsVariable n → IsBare n
+pub variable_bare : (n : Node) → IsVariable n → IsBare n
 variable_bare n v = let f = variable_flag n v in subst IsBare (sym f.1) tt
 
 pub narrowed_no_rest : (old new : List Node) (at i : ℕ) → OnlyNarrows old new at → IsNoRest old i → IsNoRest new i
@@ -158,7 +160,7 @@ narrowed_no_rest old new at i k no_rest end l r bare =
 pub narrowed_type : (old new : List Node) (at i : ℕ) → OnlyNarrows old new at → IsType old i → IsType new i
 narrowed_type old new at i k t = (let long = k.long in let lt = t.0 in omega (arith, long, lt), narrowed_no_rest old new at i k t.1)
 
-each_map : (P Q : ℕ → Type 0) → ((k : ℕ) → P k → Q k) → (ks : List ℕ) → Each P ks → Each Q ks
+pub each_map : (P Q : ℕ → Type 0) → ((k : ℕ) → P k → Q k) → (ks : List ℕ) → Each P ks → Each Q ks
 each_map P Q f [] h = tt
 each_map P Q f (k ∷ ks) h = (f k h.0, each_map P Q f ks h.1)
 
@@ -189,3 +191,32 @@ narrowed_stands old new at v _ k (within i j m s) =
 -- what doesn't stand in the term is as it was
 pub narrowed_other : (old new : List Node) (at v : ℕ) → OnlyNarrows old new at → (StandsIn old v at → ⊥) → node_at new v ≡ node_at old v
 narrowed_other old new at v k other = elim (k.nodes v) as (λ _. node_at new v ≡ node_at old v) [ inl same ↦ same | inr w ↦ absurd (other w.3) ]
+
+pub rest_narrowed : (old new : List Node) (at i : ℕ) → OnlyNarrows old new at → IsRest old i → IsRest new i
+rest_narrowed old new at i k r = IsRest-kept old new i
+    (λ j next e. elim (k.nodes j) as (λ _. node_at new j ≡ Link next) [ inl same ↦ same ∙ e | inr w ↦ absurd (no_link_variable (node_at old j) next w.0 e) ])
+    (λ j fields rest e. elim (k.nodes j) as (λ _. node_at new j ≡ End (shape.Row fields (Some rest))) [
+      | inl same ↦ same ∙ e
+      | inr w ↦ absurd (no_row_variable (node_at old j) fields (Some rest) w.0 e)
+    ]) r
+
+pub narrowed_tail : (old new : List Node) (at v : ℕ) → OnlyNarrows old new at → IsTail old (Open v) → IsTail new (Open v)
+narrowed_tail old new at v k t =
+    elim (k.nodes v) as (λ _. IsTail new (Open v)) [
+      | inl same ↦ (let long = k.long in let lt = t.0 in omega (arith, long, lt), rest_narrowed old new at v k t.1, same ∙ t.2)
+      | inr w ↦ absurd (w.2.1 v itself t.1 (variable_bare (node_at old v) w.0))
+    ]
+
+pub narrowed_row : (old new : List Node) (at i : ℕ) → OnlyNarrows old new at → IsRow (node_at old i) → IsRow (node_at new i)
+narrowed_row old new at i k r =
+    elim (k.nodes i) as (λ _. IsRow (node_at new i)) [
+      | inl same ↦ subst IsRow (sym same) r
+      | inr w ↦ (let f = variable_flag (node_at old i) w.0 in absurd (subst IsRow f.1 r))
+    ]
+
+pub narrowed_end : (old new : List Node) (at i : ℕ) → OnlyNarrows old new at → (IsLink (node_at old i) → ⊥) → IsLink (node_at new i) → ⊥
+narrowed_end old new at i k end l =
+    elim (k.nodes i) as (λ _. ⊥) [
+      | inl same ↦ end (subst IsLink same l)
+      | inr w ↦ (let f = variable_flag (node_at new i) w.1 in subst IsLink f.1 l)
+    ]

@@ -1,3 +1,4 @@
+pub mod Bound
 pub mod Flagged
 pub mod Grown
 pub mod Heads

@@ -1,6 +1,7 @@
 //! Solves equations between the types of a store.
 #![tactic(auto)]
 
+mod bind;
 mod fields;
 mod flags;
 mod no_solution;
