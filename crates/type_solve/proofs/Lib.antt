@@ -1,10 +1,13 @@
 mod Heads
 mod Match
 mod PartLists
+mod Heavier
 mod Narrowing
 mod Reading
+mod Adding
 mod Asking
 mod Binding
 mod Deciding
 mod Standing
 mod Visiting
+mod Taking

@@ -1,5 +1,5 @@
 -- What stays where flags of variables are narrowed.
-use Rattle.std.proofs.Common.{◌≡◌, ◌≢◌, ◌⊎◌, ◌↔◌, ℕ, zero, suc, ◌+◌, ◌<◌, ◌≤◌, List, [], ◌∷◌, ◌++◌, length, set, Option, Some, None, refl, sym, ◌∙◌, ap, subst, arith, inl, inr, length-set}
+use Rattle.std.proofs.Common.{◌≡◌, ◌≢◌, ◌⊎◌, ◌↔◌, ℕ, zero, suc, ◌+◌, ◌<◌, ◌≤◌, List, [], ◌∷◌, ◌++◌, length, set, Option, Some, None, refl, sym, ◌∙◌, ap, subst, arith, inl, inr, length-set, append_assoc, Result, Ok, Err, OnOk}
 use native.Mathlib.Decide.{ℕ_discrete}
 use Rattle.elm_typing.specs.declared.flag.Flag.{Flag}
 use Rattle.elm_typing.specs.Flags.{HasFlag, joined}
@@ -27,6 +27,14 @@ grown_more old now new state g e = (state ∷ g.0, e ∙ ap (λ l. state ∷ l) 
 
 pub grown_same : (old now new : List State) → IsGrown old now → new ≡ now → IsGrown old new
 grown_same old now new g e = (g.0, e ∙ g.1)
+
+-- what follows from an answer's fact holds of the answer too
+pub ok_map : {A E : Type 0} (P Q : Type 0) (r : Result A E) → OnOk r P → (P → Q) → OnOk r Q
+ok_map P Q (Ok v) p f = f p
+ok_map P Q (Err e) p f = p
+
+pub grown_through : (old now new : List State) → IsGrown old now → IsGrown now new → IsGrown old new
+grown_through old now new g h = (h.0 ++ g.0, h.1 ∙ ap (λ l. h.0 ++ l) g.1 ∙ sym (append_assoc h.0 g.0 old))
 
 unlinked_set : (nodes : List Node) (v : ℕ) (f : Flag) → v < length nodes → IsVariable (node_at nodes v) → unlinked (set nodes v (End (shape.Variable f))) ≡ unlinked nodes
 unlinked_set [] v f lt var = absurd (omega arith)

@@ -5,3 +5,4 @@ pub mod Heads
 pub mod Matching
 pub mod Rests
 pub mod Steps
+pub mod Taken

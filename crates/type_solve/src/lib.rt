@@ -11,5 +11,6 @@ mod parts;
 mod read;
 mod rows;
 mod step;
+mod take;
 
 pub use no_solution::NoSolution;
