@@ -17,7 +17,7 @@ use Rattle.type_solve.specs.Steps.{row_of, under, IsTail, CanExtend, Decides}
 use Rattle.type_solve.proofs.Match.{misses_lacks}
 use Rattle.type_solve.proofs.Reading.{rest_record}
 
-fields_apart : (s : Assignment) (fs gs : Fields) → Disjoint fs gs → Apart (fields_of s fs) (fields_of s gs)
+pub fields_apart : (s : Assignment) (fs gs : Fields) → Disjoint fs gs → Apart (fields_of s fs) (fields_of s gs)
 fields_apart s [] gs h = tt
 fields_apart s (f ∷ fs) gs h = (misses_lacks s f.0 gs h.0, fields_apart s fs gs h.1)
 

@@ -10,4 +10,5 @@ mod Binding
 mod Deciding
 mod Standing
 mod Visiting
+mod Unifying
 mod Taking

@@ -2,6 +2,7 @@
 use Rattle.std.proofs.Common.{◌≡◌, ◌≢◌, ◌⊎◌, ◌↔◌, ℕ, suc, ◌+◌, ◌<◌, ◌≤◌, List, [], ◌∷◌, ◌++◌, length, Option, Some, None, refl, sym, ◌∙◌, ap, subst, arith, inl, inr, length-append}
 use Rattle.elm_typing.specs.declared.flag.Flag.{Flag}
 use Rattle.elm_typing.specs.declared.flag.Flag.TheVariants.{Plain}
+use Rattle.elm_typing.specs.Flags.{HasFlag}
 use Rattle.elm_typing.specs.Ground.{Ground, Row, Record, Ends}
 use Rattle.elm_typing.specs.Ordered.{InOrder, RowInOrder}
 use Rattle.elm_typing.specs.Rows.{extended_all}
@@ -11,18 +12,22 @@ use Rattle.type_terms.specs.declared.shape.Shape.{Shape}
 use Rattle.type_terms.specs.declared.shape.Shape.TheVariants as shape
 use Rattle.type_terms.specs.Depth.{IsBelow, IsSound}
 use Rattle.type_terms.specs.Solutions.{Assignment, Solves, Fits, AddsNoRest, IsNoNewRest, fields_of, with_type}
-use Rattle.type_terms.specs.Terms.{State, nodes_of, notes_of, node_at, parts, below, terms_of, Each, Among, LinksTo, StandsIn, here, within, IsLink, IsVariable, IsRest, unlinked}
+use Rattle.type_terms.specs.Terms.{State, nodes_of, notes_of, node_at, parts, below, terms_of, Each, Among, LinksTo, itself, StandsIn, here, within, IsLink, IsVariable, IsRest, unlinked}
 use Rattle.type_terms.proofs.Composed.{with-cases}
 use Rattle.type_terms.proofs.Sound.{node_at-old, node_at-new}
 use Rattle.type_solve.specs.declared.rows.Tail.{Tail}
 use Rattle.type_solve.specs.declared.rows.Tail.TheVariants.{Closed, Rigid, Open}
+use Rattle.type_solve.specs.declared.step.Step.{Step}
 use Rattle.type_solve.specs.declared.step.Step.TheVariants.{Binds, Extends, Splits}
 use Rattle.type_solve.specs.Bound.{IsBound}
 use Rattle.type_solve.specs.Matching.{Fields}
 use Rattle.type_solve.specs.Rests.{IsBare, IsNoRest, type_parts, RestsApart, IsType}
-use Rattle.type_solve.specs.Steps.{row_of, under, IsRow, IsTail, Holds, CanBind, CanExtend, CanSplit}
+use Rattle.type_solve.specs.Steps.{row_of, under, IsRow, IsTail, Holds, CanBind, CanExtend, CanSplit, CanTake}
 use Rattle.type_solve.specs.Taken.{Agree, rest_term, Takes, OpensRest}
-use Rattle.type_solve.proofs.Adding.{apart_pushed, no_rest_pushed, row_harmless, row_type, tail_pushed, type_pushed, unlinked_row}
+use Rattle.type_solve.proofs.Adding.{DoesNoHarm, variable_harmless, fresh_row_harmless, unlinked_variable, apart_pushed, no_rest_pushed, row_harmless, row_type, tail_pushed, type_pushed, unlinked_row}
+use Rattle.elm_typing.proofs.RowAlgebra.{apart_solve, apart_swap}
+use Rattle.elm_typing.proofs.RowMaps.{extended-in_order}
+use Rattle.type_solve.proofs.Deciding.{fields_apart}
 use Rattle.type_solve.proofs.Heavier.{row_heavier, variable_lighter}
 use Rattle.type_solve.proofs.Reading.{no_links, rest_record, opaque_record}
 
@@ -187,3 +192,292 @@ rest_end nodes at end fields tail c leads = no_links nodes end at (λ l. subst I
 
 pub takes_at : (old new : List Node) (at end : ℕ) (fields : Fields) (tail : Tail) → end ≡ at → Takes old new (Extends end fields tail) → Takes old new (Extends at fields tail)
 takes_at old new at end fields tail same t = subst (λ (j : ℕ). Takes old new (Extends j fields tail)) same t
+
+-- a new rest --
+
+-- a row over a new variable was made, to which the rest x is to be bound
+pub record Opened (old mid : List Node) (x q row : ℕ) (fields : Fields) : Type 0 where
+  pub source : IsTail old (Open x)
+  pub variable : q ≡ length old
+  pub place : row ≡ suc (length old)
+  pub added : mid ≡ (old ++ End (shape.Variable Plain) ∷ []) ++ End (shape.Row fields (Some q)) ∷ []
+  pub apart : RestsApart mid
+  pub types : (i : ℕ) → IsType old i → IsType mid i
+  pub solutions : (s : Assignment) → Solves mid s ↔ (Solves old s × Fits ⊥ s (s row) (shape.Row fields (Some q)))
+  pub extends : (s : Assignment) (t u : Ground) → Solves old s → InOrder t → Fits ⊥ (with_type s q t) u (shape.Row fields (Some q)) → InOrder u → Solves mid (with_type (with_type s q t) row u)
+
+fresh_adds_none : (nodes : List Node) (fields : Fields) → AddsNoRest (nodes ++ End (shape.Variable Plain) ∷ []) (shape.Row fields (Some (length nodes)))
+fresh_adds_none nodes fields = λ end m flag leads e.
+    let is = node_at-new nodes (End (shape.Variable Plain)) in
+    let same = no_links (nodes ++ End (shape.Variable Plain) ∷ []) end (length nodes) (λ l. subst IsLink is l) leads in
+    let clash : End (shape.Variable Plain) ≡ End (shape.Opaque m flag) = sym is ∙ ap (node_at (nodes ++ End (shape.Variable Plain) ∷ [])) (sym same) ∙ e in cc clash
+
+pub opened : (old one new : List State) (bound more x end variable q row : ℕ) (fields : Fields) → IsSound (nodes_of old) bound → IsSound (nodes_of one) more → RestsApart (nodes_of old) →
+    IsTail (nodes_of old) (Open x) → Each (IsType (nodes_of old)) (terms_of fields) → end ≡ x → variable ≡ length (nodes_of old) → q ≡ variable →
+    one ≡ record { nodes = nodes_of old ++ End (shape.Variable Plain) ∷ []; notes = notes_of old } ∷ old →
+    ((s : Assignment) → Solves (nodes_of one) s ↔ (Solves (nodes_of old) s × HasFlag Plain (s variable))) →
+    ((s : Assignment) (type : Ground) → Solves (nodes_of old) s → HasFlag Plain type → InOrder type → Solves (nodes_of one) (with_type s variable type)) →
+    row ≡ length (nodes_of one) → new ≡ record { nodes = nodes_of one ++ End (shape.Row fields (Some q)) ∷ []; notes = notes_of one } ∷ one →
+    (AddsNoRest (nodes_of one) (shape.Row fields (Some q)) → (s : Assignment) → Solves (nodes_of new) s ↔ (Solves (nodes_of one) s × Fits ⊥ s (s row) (shape.Row fields (Some q)))) →
+    (AddsNoRest (nodes_of one) (shape.Row fields (Some q)) → (s : Assignment) (type : Ground) → Solves (nodes_of one) s → Fits ⊥ s type (shape.Row fields (Some q)) → InOrder type → Solves (nodes_of new) (with_type s row type)) →
+    Opened (nodes_of old) (nodes_of new) end q row fields
+opened old one new bound more x end variable q row fields sound sound_one apart source types same is_new is_end state solutions extends place state2 solutions2 extends2 =
+    let var = End (shape.Variable Plain) in
+    let is_one : nodes_of one ≡ nodes_of old ++ var ∷ [] = ap nodes_of state in
+    let q_is : q ≡ length (nodes_of old) = is_end ∙ is_new in
+    let harmless_one = variable_harmless (nodes_of old) bound Plain sound in
+    let apart_one = subst RestsApart (sym is_one) (apart_pushed (nodes_of old) bound (length (nodes_of old)) (shape.Variable Plain) sound harmless_one apart) in
+    let harmless : DoesNoHarm (nodes_of one) (length (nodes_of old)) (shape.Row fields (Some q))
+    = subst (λ (nodes : List Node). DoesNoHarm nodes (length (nodes_of old)) (shape.Row fields (Some q))) (sym is_one)
+        (subst (λ (j : ℕ). DoesNoHarm (nodes_of old ++ var ∷ []) (length (nodes_of old)) (shape.Row fields (Some j))) (sym q_is)
+        (fresh_row_harmless (nodes_of old) bound fields sound types)) in
+    let adds : AddsNoRest (nodes_of one) (shape.Row fields (Some q))
+    = subst (λ (nodes : List Node). AddsNoRest nodes (shape.Row fields (Some q))) (sym is_one)
+        (subst (λ (j : ℕ). AddsNoRest (nodes_of old ++ var ∷ []) (shape.Row fields (Some j))) (sym q_is) (fresh_adds_none (nodes_of old) fields)) in
+    let is_new_nodes : nodes_of new ≡ nodes_of one ++ End (shape.Row fields (Some q)) ∷ [] = ap nodes_of state2 in
+    let long : length (nodes_of one) ≡ suc (length (nodes_of old)) = ap length is_one ∙ length-append (nodes_of old) (var ∷ []) ∙ omega arith in record {
+      source = subst (λ (j : ℕ). IsTail (nodes_of old) (Open j)) (sym same) source;
+      variable = q_is;
+      place = place ∙ long;
+      added = is_new_nodes ∙ ap (λ nodes. nodes ++ End (shape.Row fields (Some q)) ∷ []) is_one;
+      apart = subst RestsApart (sym is_new_nodes) (apart_pushed (nodes_of one) more (length (nodes_of old)) (shape.Row fields (Some q)) sound_one harmless apart_one);
+      types = λ i t. subst (λ (nodes : List Node). IsType nodes i) (sym is_new_nodes)
+          (type_pushed (nodes_of one) (length (nodes_of old)) (shape.Row fields (Some q)) i harmless t.0 (omega (arith, long))
+          (subst (λ (nodes : List Node). IsNoRest nodes i) (sym is_one) (no_rest_pushed (nodes_of old) (length (nodes_of old)) (shape.Variable Plain) i harmless_one t.0 t.1)));
+      solutions = λ s. (
+        (λ h. let r = (solutions2 adds s).0 h in (((solutions s).0 r.0).0, r.1)),
+        λ h. (solutions2 adds s).1 ((solutions s).1 (h.0, tt), h.1),
+      );
+      extends = λ s t u h o f p.
+          let one_solves = subst (λ (j : ℕ). Solves (nodes_of one) (with_type s j t)) (sym is_end) (extends s t h tt o) in
+          extends2 adds (with_type s q t) u one_solves f p;
+    }
+
+opened_row : (old mid : List Node) (x q row : ℕ) (fields : Fields) → Opened old mid x q row fields → node_at mid row ≡ End (shape.Row fields (Some q))
+opened_row old mid x q row fields r =
+    let one = old ++ End (shape.Variable Plain) ∷ [] in
+    let long : length one ≡ suc (length old) = length-append old (End (shape.Variable Plain) ∷ []) ∙ omega arith in
+    ap (λ nodes. node_at nodes row) r.added ∙ ap (node_at (one ++ End (shape.Row fields (Some q)) ∷ [])) (r.place ∙ sym long) ∙ node_at-new one (End (shape.Row fields (Some q)))
+
+opened_old : (old mid : List Node) (x q row i : ℕ) (fields : Fields) → Opened old mid x q row fields → i < length old → node_at mid i ≡ node_at old i
+opened_old old mid x q row i fields r lt =
+    let one = old ++ End (shape.Variable Plain) ∷ [] in
+    let long : length one ≡ suc (length old) = length-append old (End (shape.Variable Plain) ∷ []) ∙ omega arith in
+    ap (λ nodes. node_at nodes i) r.added ∙ node_at-old one (End (shape.Row fields (Some q))) i (omega (arith, long, lt)) ∙ node_at-old old (End (shape.Variable Plain)) i lt
+
+opened_new : (old mid : List Node) (x q row : ℕ) (fields : Fields) → Opened old mid x q row fields → node_at mid q ≡ End (shape.Variable Plain)
+opened_new old mid x q row fields r =
+    let one = old ++ End (shape.Variable Plain) ∷ [] in
+    let long : length one ≡ suc (length old) = length-append old (End (shape.Variable Plain) ∷ []) ∙ omega arith in
+    let v = r.variable in
+    ap (λ nodes. node_at nodes q) r.added ∙ node_at-old one (End (shape.Row fields (Some q))) q (omega (arith, long, v)) ∙ ap (node_at one) r.variable ∙ node_at-new old (End (shape.Variable Plain))
+
+opened_long : (old mid : List Node) (x q row : ℕ) (fields : Fields) → Opened old mid x q row fields → length mid ≡ suc (suc (length old))
+opened_long old mid x q row fields r =
+    let one = old ++ End (shape.Variable Plain) ∷ [] in
+    let a = length-append old (End (shape.Variable Plain) ∷ []) in
+    let b = ap length r.added ∙ length-append one (End (shape.Row fields (Some q)) ∷ []) in omega (arith, a, b)
+
+pub opened_inside : (old mid : List Node) (x q row : ℕ) (fields : Fields) → Opened old mid x q row fields → x < length mid
+opened_inside old mid x q row fields r = let l = opened_long old mid x q row fields r in let lt = r.source.0 in omega (arith, l, lt)
+
+pub opened_variable : (old mid : List Node) (x q row : ℕ) (fields : Fields) → Opened old mid x q row fields → IsVariable (node_at mid x)
+opened_variable old mid x q row fields r = subst IsVariable (sym (opened_old old mid x q row x fields r r.source.0 ∙ r.source.2)) tt
+
+pub opened_target : (old mid : List Node) (x q row : ℕ) (fields : Fields) → Opened old mid x q row fields → IsType mid row
+opened_target old mid x q row fields r =
+    let one = old ++ End (shape.Variable Plain) ∷ [] in
+    let long : length one ≡ suc (length old) = length-append old (End (shape.Variable Plain) ∷ []) ∙ omega arith in
+    subst (λ (nodes : List Node). IsType nodes row) (sym r.added)
+    (subst (IsType (one ++ End (shape.Row fields (Some q)) ∷ [])) (sym (r.place ∙ sym long)) (row_type one fields (Some q)))
+
+pub opened_end : (old mid : List Node) (x q row : ℕ) (fields : Fields) → Opened old mid x q row fields → IsLink (node_at mid row) → ⊥
+opened_end old mid x q row fields r l = subst IsLink (opened_row old mid x q row fields r) l
+
+pub opened_is_row : (old mid : List Node) (x q row : ℕ) (fields : Fields) → Opened old mid x q row fields → IsRow (node_at mid row)
+opened_is_row old mid x q row fields r = subst IsRow (sym (opened_row old mid x q row fields r)) tt
+
+pub opened_heavier : (old mid : List Node) (x q row : ℕ) (fields : Fields) → Opened old mid x q row fields → (s : Assignment) → Solves mid s → StandsIn mid x row → s x ≢ s row
+opened_heavier old mid x q row fields r s h =
+    let lt = r.source.0 in let p = r.place in let v = r.variable in
+    row_heavier mid s x row fields (Some q) h (opened_row old mid x q row fields r)
+    (λ e. omega (arith, e, p, lt))
+    (λ y e stands. let z : q ≡ y = cc e in
+        let w = stands_alone mid x y (shape.Variable Plain) (ap (node_at mid) (sym z) ∙ opened_new old mid x q row fields r) refl stands in omega (arith, w, z, v, lt))
+
+-- a solution in which the rest is the fields over some row, with the types of the new variable and the new row
+opened_with : (old mid : List Node) (x q row : ℕ) (fields : Fields) → Opened old mid x q row fields → Each (IsType old) (terms_of fields) → (s : Assignment) (under_all : Row) → Solves old s → RowInOrder under_all →
+    s x ≡ Record (extended_all (fields_of s fields) under_all) → (r : Assignment) × Agree (length old) s r × Solves mid r × (r x ≡ r row) × (r q ≡ Record under_all)
+opened_with old mid x q row fields r types s under_all h o e =
+    let one = with_type s q (Record under_all) in
+    let u = s x in
+    let v = r.variable in let p = r.place in let lt = r.source.0 in
+    let same_fields : fields_of one fields ≡ fields_of s fields = kept fields types in
+    (
+      with_type one row u,
+      (λ i lt. sym (with_other one row i u (λ x. omega (arith, x, p, lt)) ∙ with_other s q i (Record under_all) (λ x. omega (arith, x, v, lt)))),
+      r.extends s (Record under_all) u h o (under_all, with_here s q (Record under_all), e ∙ ap (λ fs. Record (extended_all fs under_all)) (sym same_fields)) (h.in_order x),
+      with_other one row x u (λ y. omega (arith, y, p, lt)) ∙ with_other s q x (Record under_all) (λ y. omega (arith, y, v, lt)) ∙ sym (with_here one row u),
+      with_other one row q u (λ y. omega (arith, y, p, v)) ∙ with_here s q (Record under_all),
+    )
+  where
+    kept : (fs : Fields) → Each (IsType old) (terms_of fs) → fields_of (with_type s q (Record under_all)) fs ≡ fields_of s fs
+    kept [] t = refl
+    kept (f ∷ fs) t =
+        let v = r.variable in let lt = t.0.0 in
+        ap (λ g. (f.0, g) ∷ fields_of (with_type s q (Record under_all)) fs) (with_other s q f.1 (Record under_all) (λ x. omega (arith, x, v, lt)))
+        ∙ ap (λ gs. (f.0, s f.1) ∷ gs) (kept fs t.1)
+
+opened_tail : (old mid : List Node) (x q row v : ℕ) (fields : Fields) → Opened old mid x q row fields → IsTail old (Open v) → IsTail mid (Open v)
+opened_tail old mid x q row v fields r t =
+    subst (λ (nodes : List Node). IsTail nodes (Open v)) (sym r.added)
+    (tail_pushed (old ++ End (shape.Variable Plain) ∷ []) (shape.Row fields (Some q)) v (tail_pushed old (shape.Variable Plain) v t))
+
+opened_rest : (old mid : List Node) (x q row : ℕ) (fields : Fields) → Opened old mid x q row fields → IsTail mid (Open q)
+opened_rest old mid x q row fields r = (
+  (let l = opened_long old mid x q row fields r in let v = r.variable in omega (arith, l, v)),
+  record { row = row; fields = fields; rest = q; stands = opened_row old mid x q row fields r; leads = itself },
+  opened_new old mid x q row fields r,
+)
+
+pub opens_rest : (old mid new : List Node) (x q row : ℕ) (fields : Fields) → Opened old mid x q row fields → Each (IsType old) (terms_of fields) → IsBound mid new x row → OpensRest old new x fields q
+opens_rest old mid new x q row fields r types b = record {
+  sound = λ s h.
+      let m = (b.solutions s).0 h in
+      let o = (r.solutions s).0 m.0 in
+      let q_record : s q ≡ Record o.1.0 = o.1.1 in
+      (o.0, m.1 ∙ o.1.2 ∙ ap (λ z. Record (extended_all (fields_of s fields) z)) (sym (ap row_of q_record)));
+  complete = λ s under_all h o e.
+      let w = opened_with old mid x q row fields r types s under_all h o e in
+      (w.0, w.1, (b.solutions w.0).1 (w.2, w.3), w.4);
+  apart = b.apart;
+  types = λ i t. b.types i (r.types i t);
+  rests = λ v ne t. b.rests v ne (opened_tail old mid x q row v fields r t);
+  rest = b.rests q (λ e. let v = r.variable in let lt = r.source.0 in omega (arith, e, v, lt)) (opened_rest old mid x q row fields r);
+  place = let v = r.variable in omega (arith, v);
+  longer = let l = opened_long old mid x q row fields r in let m = b.long in omega (arith, l, m);
+  as_many =
+      let f = b.fewer in
+      let u = ap unlinked r.added ∙ unlinked_row (old ++ End (shape.Variable Plain) ∷ []) fields (Some q) ∙ unlinked_variable old in omega (arith, f, u);
+}
+
+pub open_refused : (old mid : List Node) (x q row : ℕ) (fields : Fields) → Opened old mid x q row fields → Each (IsType old) (terms_of fields) → ((s : Assignment) → Solves mid s → s x ≢ s row) →
+    (s : Assignment) (under_all : Row) → Solves old s → RowInOrder under_all → s x ≡ Record (extended_all (fields_of s fields) under_all) → ⊥
+open_refused old mid x q row fields r types never s under_all h o e =
+    let w = opened_with old mid x q row fields r types s under_all h o e in never w.0 w.2 w.3
+
+pub tail_end : (nodes : List Node) (x end : ℕ) → IsTail nodes (Open x) → LinksTo nodes end x → end ≡ x
+tail_end nodes x end t leads = no_links nodes end x (λ l. subst IsLink t.2 l) leads
+
+pub opens_at : (old new : List Node) (x end q : ℕ) (fields : Fields) → end ≡ x → OpensRest old new end fields q → OpensRest old new x fields q
+opens_at old new x end q fields same o = subst (λ (j : ℕ). OpensRest old new j fields q) same o
+
+pub fresh_end : (old one : List State) (variable q : ℕ) → variable ≡ length (nodes_of old) → one ≡ record { nodes = nodes_of old ++ End (shape.Variable Plain) ∷ []; notes = notes_of old } ∷ old →
+    LinksTo (nodes_of one) q variable → q ≡ variable
+fresh_end old one variable q place state leads =
+    let is : node_at (nodes_of one) variable ≡ End (shape.Variable Plain)
+    = ap (λ l. node_at (nodes_of l) variable) state ∙ ap (node_at (nodes_of old ++ End (shape.Variable Plain) ∷ [])) place ∙ node_at-new (nodes_of old) (End (shape.Variable Plain)) in
+    no_links (nodes_of one) q variable (λ l. subst IsLink is l) leads
+
+-- two rests --
+
+record_order : (nodes : List Node) (s : Assignment) (v : ℕ) (q : Row) → Solves nodes s → s v ≡ Record q → RowInOrder q
+record_order nodes s v q h e = subst InOrder e (h.in_order v)
+
+in_order_under : (s : Assignment) (fs : Fields) (q : Row) → RowInOrder (extended_all (fields_of s fs) q) → RowInOrder q
+in_order_under s [] q h = h
+in_order_under s (f ∷ fs) q h = in_order_under s fs q (extended-in_order f.0 (s f.1) (extended_all (fields_of s fs) q) h).1
+
+-- a solution in which the rows meet: what both rests have in common
+record Meets (s : Assignment) (left right : Fields) (x y : ℕ) : Type 0 where
+  row : Row
+  order : RowInOrder row
+  first : s x ≡ Record (extended_all (fields_of s right) row)
+  second : s y ≡ Record (extended_all (fields_of s left) row)
+
+meets : (nodes : List Node) (s : Assignment) (left right : Fields) (x y : ℕ) → CanSplit nodes left x right y → Solves nodes s →
+    extended_all (fields_of s left) (row_of (s x)) ≡ extended_all (fields_of s right) (row_of (s y)) → Meets s left right x y
+meets nodes s left right x y c h e =
+    let w = apart_solve (fields_of s left) (fields_of s right) (row_of (s x)) (row_of (s y)) (fields_apart s left right c.apart) e in
+    let first = rest_record nodes s x h c.first.1 ∙ ap Record w.1 in record {
+      row = w.0;
+      order = in_order_under s right w.0 (record_order nodes s x (extended_all (fields_of s right) w.0) h first);
+      first = first;
+      second = rest_record nodes s y h c.second.1 ∙ ap Record w.2;
+    }
+
+agree_fields : (n : ℕ) (s r : Assignment) (nodes : List Node) (fs : Fields) → n ≡ length nodes → Agree n s r → Each (IsType nodes) (terms_of fs) → fields_of s fs ≡ fields_of r fs
+agree_fields n s r nodes [] e a t = refl
+agree_fields n s r nodes (f ∷ fs) e a t =
+    let lt = t.0.0 in
+    ap (λ g. (f.0, g) ∷ fields_of s fs) (a f.1 (omega (arith, e, lt))) ∙ ap (λ gs. (f.0, r f.1) ∷ gs) (agree_fields n s r nodes fs e a t.1)
+
+each_kept : (P Q : ℕ → Type 0) → ((k : ℕ) → P k → Q k) → (ks : List ℕ) → Each P ks → Each Q ks
+each_kept P Q f [] h = tt
+each_kept P Q f (k ∷ ks) h = (f k h.0, each_kept P Q f ks h.1)
+
+pub can_extend_after : (old mid : List Node) (left right : Fields) (x y q : ℕ) → CanSplit old left x right y → OpensRest old mid x right q → CanExtend mid y left (Open q)
+can_extend_after old mid left right x y q c o = record {
+  source = o.rests y (λ e. c.other (sym e)) c.second;
+  ends = o.rest;
+  other = λ e. (let same : q ≡ y = cc e in let p = o.place in let lt = c.second.0 in omega (arith, same, p, lt));
+  types = each_kept (IsType old) (IsType mid) o.types (terms_of left) c.left_types;
+}
+
+pub splits_taken : (old mid new : List Node) (left right : Fields) (x y q : ℕ) → CanSplit old left x right y → OpensRest old mid x right q → Takes mid new (Extends y left (Open q)) → Takes old new (Splits left x right y)
+splits_taken old mid new left right x y q c o t = record {
+  sound = λ s h.
+      let m = t.sound s h in
+      let w = o.sound s m.0 in
+      (w.0, ap (λ z. extended_all (fields_of s left) (row_of z)) w.1
+          ∙ apart_swap (fields_of s left) (fields_of s right) (row_of (s q)) (fields_apart s left right c.apart)
+          ∙ sym (ap (λ z. extended_all (fields_of s right) (row_of z)) m.1));
+  complete = λ s h e.
+      let m = meets old s left right x y c h e in
+      let r = o.complete s m.row h m.order m.first in
+      let at_y : r.0 y ≡ Record (extended_all (fields_of r.0 left) (row_of (r.0 q)))
+      = sym (r.1 y c.second.0) ∙ m.second ∙ ap (λ fs. Record (extended_all fs m.row)) (agree_fields (length old) s r.0 old left refl r.1 c.left_types)
+          ∙ ap (λ z. Record (extended_all (fields_of r.0 left) (row_of z))) (sym r.3) in
+      let w = t.complete r.0 r.2 at_y in
+      (w.0, (λ i lt. r.1 i lt ∙ w.1 i (let l = o.longer in omega (arith, l, lt))), w.2);
+  apart = t.apart;
+  types = λ i ty. t.types i (o.types i ty);
+  longer = let a = o.longer in let b = t.longer in omega (arith, a, b);
+  fewer = let a = o.as_many in let b = t.fewer in omega (arith, a, b);
+}
+
+pub splits_refused_first : (old : List Node) (left right : Fields) (x y : ℕ) → CanSplit old left x right y →
+    ((s : Assignment) (row : Row) → Solves old s → RowInOrder row → s x ≢ Record (extended_all (fields_of s right) row)) →
+    (s : Assignment) → Solves old s → extended_all (fields_of s left) (row_of (s x)) ≡ extended_all (fields_of s right) (row_of (s y)) → ⊥
+splits_refused_first old left right x y c never s h e =
+    let m = meets old s left right x y c h e in never s m.row h m.order m.first
+
+pub splits_refused_second : (old mid : List Node) (left right : Fields) (x y q : ℕ) → CanSplit old left x right y → OpensRest old mid x right q →
+    ((s : Assignment) → Solves mid s → s y ≡ Record (extended_all (fields_of s left) (row_of (s q))) → ⊥) →
+    (s : Assignment) → Solves old s → extended_all (fields_of s left) (row_of (s x)) ≡ extended_all (fields_of s right) (row_of (s y)) → ⊥
+splits_refused_second old mid left right x y q c o never s h e =
+    let m = meets old s left right x y c h e in
+    let r = o.complete s m.row h m.order m.first in
+    never r.0 r.2 (sym (r.1 y c.second.0) ∙ m.second ∙ ap (λ fs. Record (extended_all fs m.row)) (agree_fields (length old) s r.0 old left refl r.1 c.left_types)
+        ∙ ap (λ z. Record (extended_all (fields_of r.0 left) (row_of z))) (sym r.3))
+
+-- a variable bound --
+
+pub binds_taken : (old new : List Node) (at to : ℕ) → IsBound old new at to → Takes old new (Binds at to)
+binds_taken old new at to b = record {
+  sound = λ s h. (b.solutions s).0 h;
+  complete = λ s h e. (s, (λ i lt. refl), (b.solutions s).1 (h, e));
+  apart = b.apart;
+  types = b.types;
+  longer = let l = b.long in omega (arith, l);
+  fewer = b.fewer;
+}
+
+pub binds_heavier : (nodes : List Node) (at to : ℕ) → CanBind nodes at to → (s : Assignment) → Solves nodes s → StandsIn nodes at to → s at ≢ s to
+binds_heavier nodes at to c s h stands = variable_lighter nodes s at to h c.variable c.source.1 c.end c.other stands
+
+pub takes_is : (old new : List Node) (step same : Step) → step ≡ same → Takes old new same → Takes old new step
+takes_is old new step same e t = subst (Takes old new) (sym e) t
+
+pub can_is : (nodes : List Node) (step same : Step) → step ≡ same → CanTake nodes step → CanTake nodes same
+can_is nodes step same e t = subst (CanTake nodes) e t

@@ -6,3 +6,4 @@ pub mod Matching
 pub mod Rests
 pub mod Steps
 pub mod Taken
+pub mod Unifying

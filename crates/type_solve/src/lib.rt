@@ -12,5 +12,7 @@ mod read;
 mod rows;
 mod step;
 mod take;
+mod solver;
 
 pub use no_solution::NoSolution;
+pub use solver::unify;
