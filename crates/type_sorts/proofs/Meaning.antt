@@ -15,40 +15,13 @@ use Rattle.type_terms.specs.declared.shape.Shape.TheVariants as shape
 use Rattle.type_terms.specs.Terms.{node_at, IsLink, IsRest}
 use Rattle.type_terms.specs.Solutions.{Assignment, Solves, FitsNode}
 use Rattle.type_terms.specs.Depth.{IsSound, AreNotesBelow}
+use Rattle.elm_typing.proofs.FlagSorts.{flagged-simple}
 use Rattle.type_terms.proofs.Existence.{solved-record, variables-free}
 use Rattle.type_sorts.specs.declared.edge.Edge.{Edge}
 use Rattle.type_sorts.specs.declared.edge.Vertex.{Vertex}
 use Rattle.type_sorts.specs.declared.edge.Vertex.TheVariants.{Simple, Signal, Variable, Opaque}
 use Rattle.type_sorts.specs.Sorts.{Meets}
 use Rattle.type_sorts.specs.Vertices.{sort_at, vertex_of, IsFree, Stands, IsArrow, AreEdges, Member, Reached, start, along, Separates, AreRests}
-
-comparable-simple : (chosen : ℕ → Sort) (t : Ground) → IsComparable t → sort_of chosen t ≡ SimpleSort
-comparable-simple chosen (Named name NoGrounds) h = elim h as (λ _. sort_of chosen (Named name NoGrounds) ≡ SimpleSort) [
-  | inl e ↦ ap (λ n. sort_of chosen (Named n NoGrounds)) e
-  | inr f ↦ elim f as (λ _. sort_of chosen (Named name NoGrounds) ≡ SimpleSort)
-      [ inl e ↦ ap (λ n. sort_of chosen (Named n NoGrounds)) e | inr e ↦ ap (λ n. sort_of chosen (Named n NoGrounds)) e ]
-]
-comparable-simple chosen (Named name (AndGround t NoGrounds)) h = ap (λ n. sort_of chosen (Named n NoGrounds)) h.0
-comparable-simple chosen (Named name (AndGround t (AndGround u us))) h = absurd h
-comparable-simple chosen (Function a b) h = absurd h
-comparable-simple chosen (Tuple ps) h = refl
-comparable-simple chosen (Record row) h = refl
-comparable-simple chosen (OpaqueType n Plain) h = absurd h
-comparable-simple chosen (OpaqueType n Comparable) h = refl
-comparable-simple chosen (OpaqueType n Appendable) h = refl
-comparable-simple chosen (OpaqueType n Both) h = refl
-
-appendable-simple : (chosen : ℕ → Sort) (t : Ground) → IsAppendable t → sort_of chosen t ≡ SimpleSort
-appendable-simple chosen (Named name NoGrounds) h = ap (λ n. sort_of chosen (Named n NoGrounds)) h
-appendable-simple chosen (Named name (AndGround t NoGrounds)) h = ap (λ n. sort_of chosen (Named n NoGrounds)) h
-appendable-simple chosen (Named name (AndGround t (AndGround u us))) h = absurd h
-appendable-simple chosen (Function a b) h = absurd h
-appendable-simple chosen (Tuple ps) h = refl
-appendable-simple chosen (Record row) h = refl
-appendable-simple chosen (OpaqueType n Plain) h = absurd h
-appendable-simple chosen (OpaqueType n Comparable) h = refl
-appendable-simple chosen (OpaqueType n Appendable) h = refl
-appendable-simple chosen (OpaqueType n Both) h = refl
 
 record-simple : (chosen : ℕ → Sort) (t : Ground) (row : Row) → t ≡ Record row → sort_of chosen t ≡ SimpleSort
 record-simple chosen t row e = ap (sort_of chosen) e
@@ -63,9 +36,9 @@ end-sort : (nodes : List Node) (end : ℕ) (form : Shape) (rest : Bool) → node
 end-sort nodes end (shape.Variable Plain) false e not is isnt s chosen h fit = refl
 end-sort nodes end (shape.Variable Plain) true e not is isnt s chosen h fit =
     let r = solved-record nodes s end h (is refl) in record-simple chosen (s end) r.0 r.1
-end-sort nodes end (shape.Variable Comparable) rest e not is isnt s chosen h fit = comparable-simple chosen (s end) fit
-end-sort nodes end (shape.Variable Appendable) rest e not is isnt s chosen h fit = appendable-simple chosen (s end) fit
-end-sort nodes end (shape.Variable Both) rest e not is isnt s chosen h fit = comparable-simple chosen (s end) fit.0
+end-sort nodes end (shape.Variable Comparable) rest e not is isnt s chosen h fit = flagged-simple chosen Comparable (s end) (λ f. cc f) fit
+end-sort nodes end (shape.Variable Appendable) rest e not is isnt s chosen h fit = flagged-simple chosen Appendable (s end) (λ f. cc f) fit
+end-sort nodes end (shape.Variable Both) rest e not is isnt s chosen h fit = flagged-simple chosen Both (s end) (λ f. cc f) fit
 end-sort nodes end (shape.Opaque number Plain) false e not is isnt s chosen h fit = ap (sort_of chosen) (fit.1 (isnt refl))
 end-sort nodes end (shape.Opaque number Plain) true e not is isnt s chosen h fit = ap (sort_of chosen) (fit.0 (is refl))
 end-sort nodes end (shape.Opaque number Comparable) false e not is isnt s chosen h fit = ap (sort_of chosen) (fit.1 (isnt refl))
