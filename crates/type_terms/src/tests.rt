@@ -1,4 +1,7 @@
-ghost use Rattle.std.specs.Prelude.{◌≡◌, ◌+◌, ◌∷◌, [], length, IfOk};
+ghost use Rattle.std.specs.Prelude.{◌≡◌, ◌++◌, ◌∷◌, [], codes, length, IfOk, OnOk};
+ghost use Rattle.elm_typing.specs.declared.flag.Flag.TheVariants.{Plain};
+ghost use Rattle.type_terms.specs.declared.node.Node.TheVariants.{End};
+ghost use Rattle.type_terms.specs.declared.shape.Shape.TheVariants as shape;
 ghost use Rattle.type_terms.specs.Terms.{nodes_of};
 
 use crate::{Flag, Shape, Store, TermId};
@@ -10,13 +13,23 @@ use std::test::Fail;
 // The type of this name without arguments.
 fn named(alloc: Global, store: &mut Store, name: &[u8]) -> Result<TermId, NoMemory>
     ensures place { IfOk result (λ at. at ≡ length (nodes_of store.old)) }
-    ensures longer { IfOk result (λ at. length (nodes_of store.new) ≡ length (nodes_of store.old) + 1) }
+    ensures nodes { OnOk result (nodes_of store.new ≡ nodes_of store.old ++ End (shape.Named name.now []) ∷ []) }
 {
     let name = Name::of(alloc, name)?;
     store.make(Shape::Named {
         name,
         arguments: Items::new(alloc),
     })
+}
+
+// An unflagged variable, which is term 0, and Int, which is term 1.
+fn variable_and_int(alloc: Global) -> Result<Store, NoMemory>
+    ensures { IfOk result (λ store. nodes_of store ≡ End (shape.Variable Plain) ∷ End (shape.Named (codes "Basics.Int") []) ∷ []) }
+{
+    let mut store = Store::new(alloc)?;
+    store.fresh(Flag::Plain)?;
+    named(alloc, &mut store, b"Basics.Int")?;
+    Ok(store)
 }
 
 #[test]
@@ -35,21 +48,26 @@ fn terms_flags_and_notes_are_taken_back(rt: HostRuntime) -> Result<(), Fail> {
     assert_eq!(rt; store.terms(), 1);
     assert!(rt; store.notes().is_empty());
     let again = store.shape(first);
-    assert!(rt; matches!(again, Shape::Variable { flag: Flag::Comparable }));
+    assert!(rt;
+        matches!(
+            again,
+            Shape::Variable {
+                flag: Flag::Comparable
+            }
+        )
+    );
     Ok(())
 }
 
 #[test]
 fn a_link_leads_to_its_end(rt: HostRuntime) -> Result<(), Fail> {
-    let mut store = Store::new(rt.alloc())?;
-    let variable = store.fresh(Flag::Plain)?;
-    let int = named(rt.alloc(), &mut store, b"Basics.Int")?;
+    let mut store = variable_and_int(rt.alloc())?;
     let mark = store.mark();
-    store.link(variable, int)?;
-    assert_eq!(rt; store.find(variable), int);
-    let linked = store.shape(variable);
+    store.link(0, 1)?;
+    assert_eq!(rt; store.find(0), 1);
+    let linked = store.shape(0);
     assert!(rt; matches!(linked, Shape::Named { .. }));
     store.undo(mark);
-    assert_eq!(rt; store.find(variable), variable);
+    assert_eq!(rt; store.find(0), 0);
     Ok(())
 }
