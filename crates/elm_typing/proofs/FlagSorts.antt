@@ -1,9 +1,9 @@
 -- Types with a flag are simple.
-use Rattle.std.proofs.Common.{◌≡◌, ◌≢◌, ◌↔◌, ℕ, ◌⊎◌, refl, ap, inl, inr}
+use Rattle.std.proofs.Common.{◌≡◌, ◌≢◌, ◌↔◌, ℕ, refl, ap, inl, inr}
 use Rattle.elm_typing.specs.declared.flag.Flag.{Flag}
 use Rattle.elm_typing.specs.declared.flag.Flag.TheVariants.{Plain, Comparable, Appendable, Both}
 use Rattle.elm_typing.specs.Flags.{HasFlag, IsComparable, IsAppendable, joined}
-use Rattle.elm_typing.specs.Ground.{Ground, Grounds, Row, Named, Function, Tuple, Record, Opaque, NoGrounds, AndGround}
+use Rattle.elm_typing.specs.Ground.{Ground, Named, Function, Tuple, Record, Opaque, NoGrounds, AndGround}
 use Rattle.elm_typing.specs.Sorts.{Sort, Simple, sort_of}
 
 pub comparable-simple : (chosen : ℕ → Sort) (t : Ground) → IsComparable t → sort_of chosen t ≡ Simple

@@ -1,3 +1,4 @@
+mod Example
 mod Following
 mod Marks
 mod Meaning

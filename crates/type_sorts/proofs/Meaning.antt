@@ -3,8 +3,7 @@ use Rattle.std.proofs.Common.{◌≡◌, ◌≢◌, ℕ, zero, suc, ◌<◌, Lis
 use native.Mathlib.Decide.{ℕ_discrete}
 use Rattle.std.specs.Str.{bytes_eq}
 use Rattle.elm_typing.specs.declared.flag.Flag.TheVariants.{Plain, Comparable, Appendable, Both}
-use Rattle.elm_typing.specs.Flags.{IsComparable, IsAppendable}
-use Rattle.elm_typing.specs.Ground.{Ground, Row, Named, Function, Tuple, Record, NoGrounds, AndGround, Opaque as OpaqueType}
+use Rattle.elm_typing.specs.Ground.{Ground, Row, Named, Tuple, Record, NoGrounds, AndGround}
 use Rattle.elm_typing.specs.Names.{signal_name}
 use Rattle.elm_typing.specs.Ordered.{InOrder}
 use Rattle.elm_typing.specs.Sorts.{Sort, Simple as SimpleSort, Signal as SignalSort, IsAtMost, sort_of}

@@ -10,3 +10,6 @@ mod vertex;
 
 pub use no_solution::NoSolution;
 pub use notes::sorts;
+
+#[cfg(test)]
+mod tests;
