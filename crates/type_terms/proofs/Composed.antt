@@ -1,10 +1,8 @@
 -- A solution is composed from the types that variables and opaque types are given.
-use Rattle.std.proofs.Common.{◌≡◌, ◌≢◌, ◌↔◌, ℕ, zero, suc, ◌+◌, ◌^◌, ◌<◌, ◌≤◌, List, [], ◌∷◌, ◌++◌, ◌⊎◌, length, refl, sym, ◌∙◌, ap, subst, arith, inl, inr, set, Option, Some, None, ◌==◌, if◌then◌else◌}
+use Rattle.std.proofs.Common.{◌≡◌, ◌≢◌, ℕ, zero, suc, ◌≤◌, List, [], ◌∷◌, ◌⊎◌, refl, sym, ◌∙◌, ap, subst, arith, inl, inr, Some, None, if◌then◌else◌}
 use Rattle.std.proofs.lemmas.Bool.Decides.{eqb_tells}
-use native.Mathlib.Decide.{ℕ_discrete, dec_lt}
-use Rattle.elm_typing.specs.declared.flag.Flag.{Flag}
 use Rattle.elm_typing.specs.Flags.{HasFlag}
-use Rattle.elm_typing.specs.Ground.{Ground, Grounds, Row, Named, Function, Tuple, Record, Opaque, NoGrounds, AndGround, Ends}
+use Rattle.elm_typing.specs.Ground.{Ground, Row, Named, Function, Tuple, Record, Opaque, Ends}
 use Rattle.elm_typing.specs.Ordered.{InOrder, AllInOrder, RowInOrder}
 use Rattle.elm_typing.specs.Rows.{extended_all}
 use Rattle.elm_typing.proofs.RowMaps.{in_order-extended}
@@ -12,12 +10,11 @@ use Rattle.type_terms.specs.declared.node.Node.{Node}
 use Rattle.type_terms.specs.declared.node.Node.TheVariants.{End, Link}
 use Rattle.type_terms.specs.declared.shape.Shape.{Shape}
 use Rattle.type_terms.specs.declared.shape.Shape.TheVariants as shape
-use Rattle.type_terms.specs.Terms.{State, nodes_of, node_at, parts, terms_of, below, Each, Among, IsLink, IsVariable, LinksTo, itself, further, IsRest, StandsIn, here, within}
-use Rattle.type_terms.specs.Solutions.{Assignment, Solves, Fits, FitsNode, types_of, fields_of, with_type, IsNoNewRest}
-use Rattle.type_terms.specs.Depth.{EndsWithin, IsBelow, IsSound}
-use Rattle.type_terms.proofs.Lists.{Each-map, Each-map_among, Each-at}
-use Rattle.type_terms.proofs.Sound.{EndsWithin-more, links-on, node_at-set_other, node_at-set_same}
-use Rattle.type_terms.proofs.Solved.{links-same, FitsNode-rest, links-kept, rows-kept, IsRest-kept, rest-linked}
+use Rattle.type_terms.specs.Terms.{node_at, terms_of, below, Each, IsLink, IsVariable, LinksTo, itself, further, IsRest, StandsIn, here, within}
+use Rattle.type_terms.specs.Solutions.{Assignment, Solves, FitsNode, types_of, fields_of, with_type}
+use Rattle.type_terms.specs.Depth.{EndsWithin}
+use Rattle.type_terms.proofs.Lists.{Each-map, Each-map_among}
+use Rattle.type_terms.proofs.Sound.{links-on}
 
 abbrev pub row_of : Ground → Row
 row_of (Record row) = row

@@ -1,9 +1,8 @@
 -- A sound store whose rests may be records has a solution.
-use Rattle.std.proofs.Common.{◌≡◌, ◌≢◌, ℕ, zero, suc, ◌+◌, ◌<◌, ◌≤◌, List, [], ◌∷◌, ◌⊎◌, length, refl, sym, ◌∙◌, ap, subst, arith, inl, inr, Option, Some, None}
+use Rattle.std.proofs.Common.{◌≡◌, ℕ, zero, suc, ◌<◌, List, ◌⊎◌, length, refl, sym, ◌∙◌, ap, subst, arith, inl, inr, Some, None}
 use native.Mathlib.Decide.{ℕ_discrete}
-use Rattle.elm_typing.specs.declared.flag.Flag.{Flag}
 use Rattle.elm_typing.specs.declared.flag.Flag.TheVariants.{Plain, Comparable, Appendable, Both}
-use Rattle.elm_typing.specs.Ground.{Ground, Row, Named, Tuple, Record, Opaque, NoGrounds, Ends}
+use Rattle.elm_typing.specs.Ground.{Ground, Named, Record, Opaque, NoGrounds, Ends}
 use Rattle.elm_typing.specs.Names.{string_name}
 use Rattle.elm_typing.specs.Ordered.{InOrder}
 use Rattle.type_terms.specs.declared.node.Node.{Node}
@@ -31,7 +30,7 @@ links-next : (nodes : List Node) (other i next : ℕ) → LinksTo nodes other i 
 links-next nodes other _ next (itself) not e = absurd (not (subst IsLink (sym e) tt))
 links-next nodes other _ next (further i after f r) not e = let same : after ≡ next = cc (e, f) in subst (LinksTo nodes other) same r
 
-links-meet : (nodes : List Node) (end other i : ℕ) → LinksTo nodes end i → LinksTo nodes other i → (IsLink (node_at nodes end) → ⊥) → (IsLink (node_at nodes other) → ⊥) → end ≡ other
+pub links-meet : (nodes : List Node) (end other i : ℕ) → LinksTo nodes end i → LinksTo nodes other i → (IsLink (node_at nodes end) → ⊥) → (IsLink (node_at nodes other) → ⊥) → end ≡ other
 links-meet nodes end other _ (itself) q a b = links-end nodes other end q a
 links-meet nodes end other _ (further i next e r) q a b = links-meet nodes end other next r (links-next nodes other i next q b e) a b
 

@@ -4,10 +4,9 @@ use Rattle.std.proofs.Math.Seq.{take-append_seam}
 use Rattle.std.proofs.lemmas.List.{length-reverse, reverse-append}
 use Rattle.type_terms.specs.declared.change.Change.{Change}
 use Rattle.type_terms.specs.declared.node.Node.{Node}
-use Rattle.type_terms.specs.Terms.{State, nodes_of, notes_of, node_at, parts, below, Each}
+use Rattle.type_terms.specs.Terms.{State, nodes_of, notes_of, node_at, below, Each}
 use Rattle.type_terms.specs.declared.change.Change.TheVariants.{Made, Noted, WasVariable}
-use Rattle.type_terms.specs.declared.node.Node.TheVariants.{End, Link}
-use Rattle.type_terms.specs.declared.shape.Shape.{Shape}
+use Rattle.type_terms.specs.declared.node.Node.TheVariants.{End}
 use Rattle.type_terms.specs.declared.shape.Shape.TheVariants as shape
 use Rattle.elm_typing.specs.declared.flag.Flag.{Flag}
 use Rattle.elm_typing.specs.declared.flag.Flag.TheVariants.{Plain}

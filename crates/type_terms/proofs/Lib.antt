@@ -1,4 +1,5 @@
 pub mod Composed
+mod Example
 pub mod Existence
 pub mod Histories
 pub mod Linked

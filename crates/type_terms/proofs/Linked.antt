@@ -1,12 +1,12 @@
 -- A link leaves the solutions in which both terms are equal.
-use Rattle.std.proofs.Common.{◌≡◌, ◌≢◌, ◌↔◌, ℕ, zero, suc, ◌+◌, ◌<◌, List, [], ◌∷◌, ◌⊎◌, length, refl, sym, ◌∙◌, ap, subst, arith, set}
+use Rattle.std.proofs.Common.{◌≡◌, ◌↔◌, ℕ, zero, suc, ◌+◌, ◌<◌, List, [], ◌∷◌, length, sym, subst, arith, set}
 use native.Mathlib.Decide.{ℕ_discrete}
 use Rattle.elm_typing.specs.declared.flag.Flag.{Flag}
 use Rattle.elm_typing.specs.Flags.{HasFlag}
 use Rattle.type_terms.specs.declared.node.Node.{Node}
 use Rattle.type_terms.specs.declared.node.Node.TheVariants.{End, Link}
 use Rattle.type_terms.specs.declared.shape.Shape.TheVariants as shape
-use Rattle.type_terms.specs.Terms.{node_at, IsLink, IsVariable, IsRest, LinksTo, StandsIn, unlinked}
+use Rattle.type_terms.specs.Terms.{node_at, IsVariable, IsRest, StandsIn, unlinked}
 use Rattle.type_terms.specs.Solutions.{Assignment, Solves, FitsNode, IsNoNewRest}
 use Rattle.type_terms.specs.Depth.{EndsWithin}
 use Rattle.type_terms.proofs.Sound.{node_at-set_other, node_at-set_same}

@@ -1,5 +1,5 @@
 -- What is said of each number of a list.
-use Rattle.std.proofs.Common.{◌≡◌, ℕ, zero, suc, ◌+◌, ◌<◌, ◌≤◌, List, [], ◌∷◌, ◌++◌, refl, sym, ap, subst, arith, inl, inr}
+use Rattle.std.proofs.Common.{◌≡◌, ℕ, ◌+◌, ◌≤◌, List, [], ◌∷◌, refl, sym, ap, subst, arith, inl, inr}
 use Rattle.type_terms.specs.Terms.{Each, Among}
 use Rattle.type_terms.specs.Depth.{sum_of}
 

@@ -1,21 +1,20 @@
 -- A new term leaves the solutions that fit it.
-use Rattle.std.proofs.Common.{◌≡◌, ◌≢◌, ◌↔◌, ℕ, zero, suc, ◌+◌, ◌<◌, ◌≤◌, List, [], ◌∷◌, ◌++◌, ◌⊎◌, length, refl, sym, ◌∙◌, ap, subst, arith, inl, inr, length-append, Option, Some, None}
-use native.Mathlib.Decide.{ℕ_discrete, dec_lt}
-use Rattle.elm_typing.specs.declared.flag.Flag.TheVariants.{Plain}
+use Rattle.std.proofs.Common.{◌≡◌, ◌↔◌, ℕ, ◌<◌, List, [], ◌∷◌, ◌++◌, ◌⊎◌, length, refl, sym, ◌∙◌, ap, subst, arith, inl, inr, length-append, Some, None}
+use native.Mathlib.Decide.{dec_lt}
 use Rattle.elm_typing.specs.Flags.{HasFlag}
-use Rattle.elm_typing.specs.Ground.{Ground, Row, Named, Tuple, Record, Ends}
+use Rattle.elm_typing.specs.Ground.{Ground, Named, Tuple, Record, Ends}
 use Rattle.elm_typing.specs.Ordered.{InOrder}
 use Rattle.elm_typing.specs.Rows.{extended_all}
 use Rattle.type_terms.specs.declared.node.Node.{Node}
 use Rattle.type_terms.specs.declared.node.Node.TheVariants.{End, Link}
 use Rattle.type_terms.specs.declared.shape.Shape.{Shape}
 use Rattle.type_terms.specs.declared.shape.Shape.TheVariants as shape
-use Rattle.type_terms.specs.Terms.{node_at, parts, below, Each, Among, IsLink, IsVariable, IsRest, LinksTo, itself, further}
-use Rattle.type_terms.specs.Solutions.{Assignment, Solves, Fits, FitsNode, AddsNoRest, IsNoNewRest, with_type, fields_of}
+use Rattle.type_terms.specs.Terms.{node_at, parts, below, Each, IsVariable, IsRest, LinksTo, itself, further}
+use Rattle.type_terms.specs.Solutions.{Assignment, Solves, Fits, FitsNode, AddsNoRest, IsNoNewRest, with_type}
 use Rattle.type_terms.specs.Depth.{IsBelow, IsSound}
-use Rattle.type_terms.proofs.Lists.{Each-at, Each-map, Each-map_among}
+use Rattle.type_terms.proofs.Lists.{Each-map}
 use Rattle.type_terms.proofs.Sound.{node_at-old, node_at-new, node_at-past, by_place, inside-link}
-use Rattle.type_terms.proofs.Solved.{FitsNode-rest, IsOpaque, LinksTo-kept, IsRest-kept}
+use Rattle.type_terms.proofs.Solved.{FitsNode-rest, IsOpaque, IsRest-kept}
 use Rattle.type_terms.proofs.Composed.{Same, types_of-same, fields_of-same, with-cases}
 
 -- what is no unlinked variable stands in the store

@@ -1,21 +1,15 @@
 -- What changes do to the solutions of a store.
-use Rattle.std.proofs.Common.{◌≡◌, ◌≢◌, ◌↔◌, ℕ, zero, suc, ◌+◌, ◌^◌, ◌<◌, ◌≤◌, List, [], ◌∷◌, ◌++◌, ◌⊎◌, length, refl, sym, ◌∙◌, ap, subst, arith, inl, inr, set, length-set, length-append, Option, Some, None}
-use native.Mathlib.Decide.{ℕ_discrete, dec_lt}
+use Rattle.std.proofs.Common.{◌≡◌, ◌≢◌, ◌↔◌, ℕ, ◌<◌, List, ◌⊎◌, length, refl, sym, ◌∙◌, ap, subst, inl, inr, set, Option, Some, None}
+use native.Mathlib.Decide.{ℕ_discrete}
 use Rattle.elm_typing.specs.declared.flag.Flag.{Flag}
-use Rattle.elm_typing.specs.declared.flag.Flag.TheVariants.{Plain}
 use Rattle.elm_typing.specs.Flags.{HasFlag}
-use Rattle.elm_typing.specs.Ground.{Ground, Grounds, Named, Function, Tuple, Record, Opaque, NoGrounds, AndGround, Ends}
-use Rattle.elm_typing.specs.Ordered.{InOrder}
-use Rattle.elm_typing.specs.Rows.{extended_all}
+use Rattle.elm_typing.specs.Ground.{Ground}
 use Rattle.type_terms.specs.declared.node.Node.{Node}
 use Rattle.type_terms.specs.declared.node.Node.TheVariants.{End, Link}
-use Rattle.type_terms.specs.declared.shape.Shape.{Shape}
 use Rattle.type_terms.specs.declared.shape.Shape.TheVariants as shape
-use Rattle.type_terms.specs.Terms.{State, nodes_of, node_at, parts, terms_of, below, Each, Among, IsLink, IsVariable, LinksTo, itself, further, IsRest, StandsIn, here, within}
-use Rattle.type_terms.specs.Solutions.{Assignment, Solves, Fits, FitsNode, types_of, fields_of, IsNoNewRest, AddsNoRest, with_type}
-use Rattle.type_terms.specs.Depth.{IsBelow, IsSound}
-use Rattle.type_terms.proofs.Lists.{Each-at}
-use Rattle.type_terms.proofs.Sound.{node_at-set_other, node_at-set_same, node_at-old, node_at-new, node_at-past, by_place, links-on}
+use Rattle.type_terms.specs.Terms.{node_at, below, Among, IsVariable, LinksTo, itself, further, IsRest, StandsIn, here, within}
+use Rattle.type_terms.specs.Solutions.{Assignment, Solves, FitsNode, IsNoNewRest}
+use Rattle.type_terms.proofs.Sound.{node_at-set_other, node_at-set_same}
 
 -- a term and the one that links lead to have the same type
 pub links-same : (nodes : List Node) (s : Assignment) (end at : ℕ) → Solves nodes s → LinksTo nodes end at → s at ≡ s end

@@ -1,5 +1,5 @@
 -- Depth and size of the terms of a store, and that each change keeps a store sound.
-use Rattle.std.proofs.Common.{◌≡◌, ◌≢◌, ℕ, zero, suc, ◌+◌, ◌^◌, ◌<◌, ◌≤◌, List, [], ◌∷◌, ◌++◌, length, refl, sym, ◌∙◌, ap, subst, arith, inl, inr, get_or-set_other, get_or-set_same, set, length-set, length-append, lit<}
+use Rattle.std.proofs.Common.{◌≡◌, ◌≢◌, ℕ, zero, suc, ◌+◌, ◌^◌, ◌<◌, ◌≤◌, List, [], ◌∷◌, ◌++◌, length, refl, sym, ap, subst, arith, inl, get_or-set_other, get_or-set_same, set, length-set, length-append, lit<}
 use Rattle.std.proofs.lemmas.List.{get_or_past}
 use lib.ListN.{get_or-append}
 use native.Mathlib.Decide.{ℕ_discrete, dec_lt}

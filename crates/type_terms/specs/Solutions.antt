@@ -1,5 +1,5 @@
 -- What a store means: the assignments of ground types to its terms that respect shapes, links and flags.
-use Rattle.std.specs.Prelude.{◌≡◌, ℕ, List, [], ◌∷◌, Option, Some, None, ◌==◌, if◌then◌else◌}
+use Rattle.std.specs.Prelude.{◌≡◌, ℕ, List, [], ◌∷◌, Some, None, ◌==◌, if◌then◌else◌}
 use Rattle.elm_typing.specs.declared.flag.Flag.{Flag}
 use Rattle.elm_typing.specs.declared.flag.Flag.TheVariants.{Plain}
 use Rattle.elm_typing.specs.Flags.{HasFlag}

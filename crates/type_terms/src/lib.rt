@@ -16,3 +16,6 @@ pub use store::{Store, StoreMark};
 
 /// A term's number. The terms of a store are numbered from 0 in the order in which they were made.
 pub type TermId = u32;
+
+#[cfg(test)]
+mod tests;

@@ -102,9 +102,9 @@ impl Store {
         ensures lighter { sum_of (weight self.now) (parts result.now) < weight self.now at }
         ensures sound { IsSound (nodes_of self.now) (doubled (length self.now)) }
     {
-        match self.node(at) {
+        match self.node(self.find(at)) {
             Node::End(shape) => shape,
-            Node::Link(to) => self.shape(*to),
+            Node::Link(_) => unreachable!(),
         }
     }
 

@@ -1,6 +1,5 @@
-use Rattle.std.proofs.Common.{◌+◌, arith}
+use Rattle.std.proofs.Common.{arith}
 use Rattle.type_terms.proofs.Histories.{length-view}
-use Rattle.type_terms.proofs.Sound.{sound-present}
 use Rattle.type_terms.proofs.store.Store.changes.Goals as goal
 
 pub returns-clause-count : goal.returns-clause-count

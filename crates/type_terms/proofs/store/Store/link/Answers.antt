@@ -1,4 +1,4 @@
-use Rattle.std.proofs.Common.{◌≡◌, ◌↔◌, ◌+◌, ℕ, List, ◌∷◌, length, set, sym, ap, subst}
+use Rattle.std.proofs.Common.{◌≡◌, ◌↔◌, ◌+◌, List, ◌∷◌, length, set, sym, subst}
 use Rattle.type_terms.specs.declared.node.Node.TheVariants.{Link}
 use Rattle.type_terms.specs.Terms.{State, nodes_of, notes_of, unlinked}
 use Rattle.type_terms.specs.Solutions.{Assignment, Solves}
