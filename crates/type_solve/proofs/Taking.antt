@@ -60,7 +60,7 @@ adds_no_rest nodes fields Closed is = tt
 adds_no_rest nodes fields (Rigid at number) is = λ end m flag leads e. subst (IsRest nodes) (sym (no_links nodes end at (λ l. subst IsLink is.2 l) leads)) is.1
 adds_no_rest nodes fields (Open at) is = λ end m flag leads e. subst (IsRest nodes) (sym (no_links nodes end at (λ l. subst IsLink is.2 l) leads)) is.1
 
-firsts : (nodes : List Node) (ks : List ℕ) → Each (IsType nodes) ks → Each (IsBelow (length nodes)) ks
+pub firsts : (nodes : List Node) (ks : List ℕ) → Each (IsType nodes) ks → Each (IsBelow (length nodes)) ks
 firsts nodes [] h = tt
 firsts nodes (k ∷ ks) h = (h.0.0, firsts nodes ks h.1)
 

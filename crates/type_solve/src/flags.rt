@@ -6,12 +6,12 @@ ghost use Rattle.elm_typing.specs.declared.flag.Flag.TheVariants.{Comparable, Ap
 ghost use Rattle.elm_typing.specs.Flags.{IsComparable, IsAppendable, HasFlag};
 ghost use Rattle.type_solve.specs.Flagged.{AllowsOrder, AllowsJoining, IsBase, Demands, Narrows};
 ghost use Rattle.type_solve.specs.Grown.{IsGrown};
-ghost use Rattle.type_solve.specs.declared.no_solution.NoSolution.{NoSolution};
+ghost use Rattle.type_sorts.specs.declared.no_solution.NoSolution.{NoSolution};
 ghost use Rattle.type_solve.specs.Rests.{RestsApart, IsType};
 ghost use Rattle.type_terms.specs.Solutions.{Assignment, Solves};
 ghost use Rattle.type_terms.specs.Terms.{nodes_of};
 
-use crate::no_solution::NoSolution;
+use type_sorts::NoSolution;
 use crate::parts::{is_variable, push_parts};
 use crate::read::shape_at;
 use elm_base::{Halt, Name, NoMemory};

@@ -2,14 +2,14 @@
 
 ghost use Rattle.std.specs.Prelude.{◌≡◌, ◌≢◌, Err, OnOk, OnErr};
 ghost use Rattle.elm_base.specs.declared.memory.Halt.TheVariants.{Because};
-ghost use Rattle.type_solve.specs.declared.no_solution.NoSolution.{NoSolution};
+ghost use Rattle.type_sorts.specs.declared.no_solution.NoSolution.{NoSolution};
 ghost use Rattle.type_solve.specs.Grown.{IsGrown};
 ghost use Rattle.type_solve.specs.Rests.{RestsApart, IsType};
 ghost use Rattle.type_solve.specs.Unifying.{Unifies};
 ghost use Rattle.type_terms.specs.Solutions.{Assignment, Solves};
 ghost use Rattle.type_terms.specs.Terms.{nodes_of};
 
-use crate::no_solution::NoSolution;
+use type_sorts::NoSolution;
 use crate::pair::Pair;
 use crate::step::{Step, descend};
 use crate::take::take;
