@@ -5,6 +5,7 @@ use Rattle.type_terms.specs.declared.node.Node.{Node}
 use Rattle.type_terms.specs.declared.node.Node.TheVariants.{End, Link}
 use Rattle.type_terms.specs.declared.shape.Shape.{Shape}
 use Rattle.type_terms.specs.declared.shape.Shape.TheVariants as shape
+use Rattle.type_terms.specs.Solutions.{MayBeRest}
 use Rattle.type_terms.specs.Depth.{IsBelow, IsSound}
 use Rattle.type_terms.specs.Terms.{State, nodes_of, notes_of, node_at, parts, terms_of, Each, LinksTo, itself, IsLink, IsRest}
 use Rattle.type_terms.proofs.Pushed.{rest-kept, new-no_rest}
@@ -16,7 +17,7 @@ use Rattle.type_solve.specs.Matching.{Fields}
 use Rattle.type_solve.specs.Rests.{IsBare, IsNoRest, type_parts, RestsApart, IsType}
 use Rattle.type_solve.specs.Steps.{IsTail}
 use Rattle.type_solve.specs.Taken.{rest_term}
-use Rattle.type_solve.proofs.Adding.{DoesNoHarm, apart_pushed, type_pushed, no_rest_pushed, tail_pushed, row_harmless, row_type, variable_harmless, fresh_row_harmless, parts_small}
+use Rattle.type_solve.proofs.Adding.{DoesNoHarm, apart_pushed, type_pushed, no_rest_pushed, tail_pushed, row_harmless, row_type, leaf_harmless, leaf_row_harmless, parts_small}
 use Rattle.type_solve.proofs.Reading.{no_links}
 use Rattle.type_solve.proofs.Taking.{firsts}
 
@@ -80,29 +81,30 @@ row_is_new old new at fields tail e place =
 pub keeps_both : (old now new : List Node) → Keeps old now → Keeps now new → Keeps old new
 keeps_both old now new k l = record { apart = l.apart; types = λ i t. l.types i (k.types i t); tails = λ tail t. l.tails tail (k.tails tail t) }
 
--- a new variable under a new row without fields
-pub rest_keeps : (old one new : List Node) (bound more at : ℕ) → IsSound old bound → IsSound one more → RestsApart old → one ≡ old ++ End (shape.Variable Plain) ∷ [] → at ≡ length old →
-    new ≡ one ++ End (shape.Row [] (Some at)) ∷ [] → Keeps old new
-rest_keeps old one new bound more at sound sound_one apart e place f =
+-- a new variable or opaque type under a new row without fields
+pub leaf_keeps : (old one new : List Node) (bound more at : ℕ) (form : Shape) → IsBare (End form) → MayBeRest (End form) → IsSound old bound → IsSound one more → RestsApart old →
+    one ≡ old ++ End form ∷ [] → at ≡ length old → new ≡ one ++ End (shape.Row [] (Some at)) ∷ [] → Keeps old new
+leaf_keeps old one new bound more at form bare may sound sound_one apart e place f =
     let harmless : DoesNoHarm one (length old) (shape.Row [] (Some at))
     = subst (λ (nodes : List Node). DoesNoHarm nodes (length old) (shape.Row [] (Some at))) (sym e)
-        (subst (λ (j : ℕ). DoesNoHarm (old ++ End (shape.Variable Plain) ∷ []) (length old) (shape.Row [] (Some j))) (sym place) (fresh_row_harmless old bound [] sound tt)) in
-    let first = variable_harmless old bound Plain sound in
-    let long : length one ≡ suc (length old) = ap length e ∙ length-append old (End (shape.Variable Plain) ∷ []) ∙ omega arith in
+        (subst (λ (j : ℕ). DoesNoHarm (old ++ End form ∷ []) (length old) (shape.Row [] (Some j))) (sym place) (leaf_row_harmless old bound form [] sound bare may tt)) in
+    let first = leaf_harmless old bound form sound bare in
+    let long : length one ≡ suc (length old) = ap length e ∙ length-append old (End form ∷ []) ∙ omega arith in
     subst (Keeps old) (sym f) (record {
-      apart = apart_pushed one more (length old) (shape.Row [] (Some at)) sound_one harmless (subst RestsApart (sym e) (apart_pushed old bound (length old) (shape.Variable Plain) sound first apart));
+      apart = apart_pushed one more (length old) (shape.Row [] (Some at)) sound_one harmless (subst RestsApart (sym e) (apart_pushed old bound (length old) form sound first apart));
       types = λ i t. type_pushed one (length old) (shape.Row [] (Some at)) i harmless t.0 (omega (arith, long))
-          (subst (λ (nodes : List Node). IsNoRest nodes i) (sym e) (no_rest_pushed old (length old) (shape.Variable Plain) i first t.0 t.1));
-      tails = λ tail t. any_tail_pushed one (shape.Row [] (Some at)) tail (subst (λ (nodes : List Node). IsTail nodes tail) (sym e) (any_tail_pushed old (shape.Variable Plain) tail t));
+          (subst (λ (nodes : List Node). IsNoRest nodes i) (sym e) (no_rest_pushed old (length old) form i first t.0 t.1));
+      tails = λ tail t. any_tail_pushed one (shape.Row [] (Some at)) tail (subst (λ (nodes : List Node). IsTail nodes tail) (sym e) (any_tail_pushed old form tail t));
     })
 
-pub rest_is_new : (old one new : List Node) (at : ℕ) → one ≡ old ++ End (shape.Variable Plain) ∷ [] → at ≡ length old → new ≡ one ++ End (shape.Row [] (Some at)) ∷ [] → IsTail new (Open at)
-rest_is_new old one new at e place f =
-    let long : length one ≡ suc (length old) = ap length e ∙ length-append old (End (shape.Variable Plain) ∷ []) ∙ omega arith in
+pub leaf_rest : (old one new : List Node) (at : ℕ) (form : Shape) → one ≡ old ++ End form ∷ [] → at ≡ length old → new ≡ one ++ End (shape.Row [] (Some at)) ∷ [] →
+    (at < length new) × IsRest new at × (node_at new at ≡ End form)
+leaf_rest old one new at form e place f =
+    let long : length one ≡ suc (length old) = ap length e ∙ length-append old (End form ∷ []) ∙ omega arith in
     let new_long : length new ≡ suc (length one) = ap length f ∙ length-append one (End (shape.Row [] (Some at)) ∷ []) ∙ omega arith in
     (
       omega (arith, long, new_long, place),
       record { row = length one; fields = []; rest = at; stands = ap (λ nodes. node_at nodes (length one)) f ∙ node_at-new one (End (shape.Row [] (Some at))); leads = itself },
       ap (λ nodes. node_at nodes at) f ∙ node_at-old one (End (shape.Row [] (Some at))) at (omega (arith, long, place)) ∙ ap (λ nodes. node_at nodes at) e
-          ∙ ap (node_at (old ++ End (shape.Variable Plain) ∷ [])) place ∙ node_at-new old (End (shape.Variable Plain)),
+          ∙ ap (node_at (old ++ End form ∷ [])) place ∙ node_at-new old (End form),
     )

@@ -67,3 +67,22 @@ pub fn make_rest(alloc: Global, store: &mut Store) -> Result<Tail, NoMemory>
     })?;
     Ok(Tail::Open { at })
 }
+
+/// A new opaque type that stands as the rest of a new row without fields, which is the term before the next one.
+pub fn make_rigid_rest(alloc: Global, store: &mut Store, number: u32) -> Result<Tail, NoMemory>
+    requires apart { RestsApart (nodes_of store.old) }
+    ensures keeps { OnOk result (Keeps (nodes_of store.old) (nodes_of store.new)) }
+    ensures tail { IfOk result (λ tail. IsTail (nodes_of store.new) tail) }
+{
+    let _terms = store.terms();
+    let at = store.make(Shape::Opaque {
+        number,
+        flag: Flag::Plain,
+    })?;
+    let _more = store.terms();
+    store.make(Shape::Row {
+        fields: Items::new(alloc),
+        rest: Some(at),
+    })?;
+    Ok(Tail::Rigid { at, number })
+}

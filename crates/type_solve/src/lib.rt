@@ -14,7 +14,7 @@ mod solver;
 mod step;
 mod take;
 
-pub use build::{make_rest, make_row, make_type};
+pub use build::{make_rest, make_rigid_rest, make_row, make_type};
 pub use rows::Tail;
 pub use type_sorts::{NoSolution, sorts};
 pub use solver::unify;
