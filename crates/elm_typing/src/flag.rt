@@ -1,3 +1,7 @@
+ghost use Rattle.std.specs.Prelude.{◌≡◌, ◌↔◌};
+ghost use Rattle.elm_typing.specs.Flags.{HasFlag, joined};
+ghost use Rattle.elm_typing.specs.Ground.{Ground};
+
 /// What a type variable or an opaque type is restricted to.
 #[derive(Clone, Copy, Debug, PartialEq, Eq)]
 pub enum Flag {
@@ -9,4 +13,19 @@ pub enum Flag {
     Appendable,
     /// Types that are comparable and appendable.
     Both,
+}
+
+impl Flag {
+    /// The flag of the types that have both flags.
+    pub fn joined(self, other: Flag) -> Flag
+        ensures flag { result ≡ joined self other }
+        ensures types { (type : Ground) → HasFlag result type ↔ (HasFlag self type × HasFlag other type) }
+    {
+        match (self, other) {
+            (Flag::Plain, flag) | (flag, Flag::Plain) => flag,
+            (Flag::Comparable, Flag::Comparable) => Flag::Comparable,
+            (Flag::Appendable, Flag::Appendable) => Flag::Appendable,
+            _ => Flag::Both,
+        }
+    }
 }

@@ -4,5 +4,16 @@
 #![tactic(auto)]
 
 mod flag;
+mod flag_laws;
+mod row_laws;
+mod sort_laws;
 
 pub use flag::Flag;
+pub use flag_laws::{
+    appendable_types, comparable_types, flags_of_other_types, joined_flags_ask_for_both,
+};
+pub use row_laws::{
+    a_new_field_keeps_the_order, a_new_field_stands_in_front, fields_of_different_labels_commute,
+    fields_without_common_labels_have_one_answer, rows_in_order_are_maps,
+};
+pub use sort_laws::{flagged_types_are_simple, sorts_of_types, well_sorted_types};

@@ -1,0 +1,4 @@
+pub mod FlagSorts
+pub mod LabelOrder
+pub mod RowAlgebra
+pub mod RowMaps

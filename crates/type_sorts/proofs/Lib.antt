@@ -1,0 +1,4 @@
+mod Example
+mod Following
+mod Marks
+mod Meaning

@@ -1,0 +1,4 @@
+pub mod Depth
+pub mod History
+pub mod Solutions
+pub mod Terms
