@@ -1,2 +1,14 @@
+mod Heads
 mod Match
+mod PartLists
+mod Heavier
+mod Narrowing
 mod Reading
+mod Adding
+mod Asking
+mod Binding
+mod Deciding
+mod Standing
+mod Visiting
+mod Unifying
+mod Taking

@@ -1,7 +1,7 @@
 -- What the nodes of a store say of its solutions.
 use Rattle.std.proofs.Common.{◌≡◌, ◌≢◌, ◌⊎◌, ℕ, zero, suc, ◌+◌, ◌<◌, ◌≤◌, List, [], ◌∷◌, ◌++◌, length, get_or, Option, Some, None, refl, sym, ◌∙◌, ap, subst, arith, inl, inr}
 use Rattle.elm_typing.specs.declared.flag.Flag.{Flag}
-use Rattle.elm_typing.specs.declared.flag.Flag.TheVariants.{Plain}
+use Rattle.elm_typing.specs.declared.flag.Flag.TheVariants.{Plain, Comparable, Appendable, Both}
 use Rattle.elm_typing.specs.Ground.{Ground, Row, Record, Ends}
 use Rattle.elm_typing.specs.Rows.{extended_all}
 use Rattle.elm_typing.proofs.RowAlgebra.{extended_all-append}
@@ -10,13 +10,13 @@ use Rattle.type_terms.specs.declared.node.Node.TheVariants.{End, Link}
 use Rattle.type_terms.specs.declared.shape.Shape.{Shape}
 use Rattle.type_terms.specs.declared.shape.Shape.TheVariants as shape
 use Rattle.type_terms.specs.Depth.{IsBelow, sum_of, weight}
-use Rattle.type_terms.specs.Solutions.{Assignment, Solves, Fits, FitsNode, fields_of}
+use Rattle.type_terms.specs.Solutions.{Assignment, MayBeRest, Solves, Fits, FitsNode, fields_of}
 use Rattle.type_terms.specs.Terms.{State, nodes_of, node_at, terms_of, parts, Each, Among, LinksTo, itself, further, IsLink, IsVariable, IsRest}
 use Rattle.type_solve.specs.declared.rows.Tail.{Tail}
 use Rattle.type_solve.specs.declared.rows.Tail.TheVariants.{Closed, Rigid, Open}
 use Rattle.type_solve.specs.declared.rows.Flat.{Flat}
 use Rattle.type_solve.specs.Matching.{Fields}
-use Rattle.type_solve.specs.Rests.{MayBeRest, IsBare, IsNoRest, type_parts, RestsApart, IsType}
+use Rattle.type_solve.specs.Rests.{IsBare, IsNoRest, type_parts, RestsApart, IsType}
 use Rattle.type_solve.specs.Steps.{IsRow, row_of, under, IsShapeAt, IsTail, Flattens}
 use Rattle.type_solve.proofs.Match.{each_append}
 
@@ -157,9 +157,19 @@ rest_of_read nodes end no_row h = elim h as (λ _. IsRest nodes end) [ inl row �
 
 pub open_tail : (nodes : List Node) (at : ℕ) (sh : Shape) → node_at nodes at ≡ End sh → IsRest nodes at → (IsRow (node_at nodes at) → ⊥) → RestsApart nodes →
     ((number : ℕ) (flag : Flag) → sh ≡ shape.Opaque number flag → ⊥) → node_at nodes at ≡ End (shape.Variable Plain)
-open_tail nodes at (shape.Variable flag) e rest no_row apart other = e ∙ ap (λ f. End (shape.Variable f)) (subst MayBeRest e (apart.rests at rest))
+open_tail nodes at (shape.Variable Plain) e rest no_row apart other = e
+open_tail nodes at (shape.Variable Comparable) e rest no_row apart other = absurd (subst MayBeRest e (apart.rests at rest))
+open_tail nodes at (shape.Variable Appendable) e rest no_row apart other = absurd (subst MayBeRest e (apart.rests at rest))
+open_tail nodes at (shape.Variable Both) e rest no_row apart other = absurd (subst MayBeRest e (apart.rests at rest))
 open_tail nodes at (shape.Opaque number flag) e rest no_row apart other = absurd (other number flag refl)
 open_tail nodes at (shape.Row fields tail) e rest no_row apart other = absurd (no_row (subst IsRow (sym e) tt))
 open_tail nodes at (shape.Named name arguments) e rest no_row apart other = absurd (subst MayBeRest e (apart.rests at rest))
 open_tail nodes at (shape.Arrow from to) e rest no_row apart other = absurd (subst MayBeRest e (apart.rests at rest))
 open_tail nodes at (shape.Tuple ps) e rest no_row apart other = absurd (subst MayBeRest e (apart.rests at rest))
+
+pub rigid_tail : (nodes : List Node) (at number : ℕ) (flag : Flag) → node_at nodes at ≡ End (shape.Opaque number flag) → IsRest nodes at → RestsApart nodes →
+    node_at nodes at ≡ End (shape.Opaque number Plain)
+rigid_tail nodes at number Plain e rest apart = e
+rigid_tail nodes at number Comparable e rest apart = absurd (subst MayBeRest e (apart.rests at rest))
+rigid_tail nodes at number Appendable e rest apart = absurd (subst MayBeRest e (apart.rests at rest))
+rigid_tail nodes at number Both e rest apart = absurd (subst MayBeRest e (apart.rests at rest))

@@ -5,15 +5,8 @@ use Rattle.type_terms.specs.declared.node.Node.{Node}
 use Rattle.type_terms.specs.declared.node.Node.TheVariants.{End, Link}
 use Rattle.type_terms.specs.declared.shape.Shape.{Shape}
 use Rattle.type_terms.specs.declared.shape.Shape.TheVariants as shape
+use Rattle.type_terms.specs.Solutions.{MayBeRest}
 use Rattle.type_terms.specs.Terms.{node_at, terms_of, Each, LinksTo, IsRest}
-
--- what the rest of a row may be: a row, or a variable or opaque type without flag, perhaps through links
-abbrev pub MayBeRest : Node → Type 0
-MayBeRest (Link to) = Unit {0}
-MayBeRest (End (shape.Row fields rest)) = Unit {0}
-MayBeRest (End (shape.Variable flag)) = flag ≡ Plain
-MayBeRest (End (shape.Opaque number flag)) = flag ≡ Plain
-MayBeRest _ = ⊥
 
 abbrev pub IsBare : Node → Type 0
 IsBare (End (shape.Variable flag)) = Unit {0}

@@ -19,14 +19,6 @@ use Rattle.type_solve.specs.declared.step.Step.TheVariants.{Done, Clash, Binds, 
 use Rattle.type_solve.specs.Matching.{Disjoint, AllEqual, terms_in}
 use Rattle.type_solve.specs.Rests.{IsType}
 
--- the same head with as many parts; rows and variables have none
-abbrev pub SameHead : Shape → Shape → Type 0
-SameHead (shape.Opaque m f) (shape.Opaque n g) = (m ≡ n) × (f ≡ g)
-SameHead (shape.Named m xs) (shape.Named n ys) = (m ≡ n) × (length xs ≡ length ys)
-SameHead (shape.Arrow a b) (shape.Arrow c d) = Unit {0}
-SameHead (shape.Tuple xs) (shape.Tuple ys) = length xs ≡ length ys
-SameHead _ _ = ⊥
-
 -- the term is an end of this shape; its parts stand in the store and are lighter together
 pub record IsShapeAt (store : List State) (at : ℕ) (sh : Shape) : Type 0 where
   pub here : node_at (nodes_of store) at ≡ End sh
@@ -98,6 +90,12 @@ CanTake nodes (Extends at fields tail) = CanExtend nodes at fields tail
 CanTake nodes (Splits left x right y) = CanSplit nodes left x right y
 CanTake nodes _ = Unit {0}
 
+-- the left fields over the first tail are the right fields over the second exactly where the step holds
+pub record Decides (nodes : List Node) (left : List (List ℕ × ℕ)) (first : Tail) (right : List (List ℕ × ℕ)) (second : Tail) (step : Step) : Type 0 where
+  pub to : (s : Assignment) → Solves nodes s → extended_all (fields_of s left) (under s first) ≡ extended_all (fields_of s right) (under s second) → Holds s step
+  pub back : (s : Assignment) → Solves nodes s → Holds s step → extended_all (fields_of s left) (under s first) ≡ extended_all (fields_of s right) (under s second)
+  pub takes : CanTake nodes step
+
 -- the terms are equal exactly where the step holds and the pairs that it put in wait are
 pub record Visits (store : List State) (a b : ℕ) (before after : List Pair) (step : Step) : Type 0 where
   pub pairs : List Pair
@@ -107,3 +105,11 @@ pub record Visits (store : List State) (a b : ℕ) (before after : List Pair) (s
   pub light : sum_of (weight store) (terms_in pairs) < weight store a + weight store b
   pub types : Each (IsType (nodes_of store)) (terms_in pairs)
   pub takes : CanTake (nodes_of store) step
+
+-- the pairs that waited before are equal exactly where the step holds and the pairs that still wait are
+pub record Descends (nodes : List Node) (before after : List Pair) (step : Step) : Type 0 where
+  pub to : (s : Assignment) → Solves nodes s → AllEqual s before → Holds s step × AllEqual s after
+  pub back : (s : Assignment) → Solves nodes s → Holds s step → AllEqual s after → AllEqual s before
+  pub types : Each (IsType nodes) (terms_in after)
+  pub takes : CanTake nodes step
+  pub finished : step ≡ Done → after ≡ []

@@ -25,11 +25,11 @@ inside-other nodes i node not e =
       | no ge ↦ absurd (not (subst IsVariable (sym (node_at-past nodes i (omega arith)) ∙ e) tt))
     ]
 
-pushed-keeps : (nodes : List Node) (new node : Node) (i : ℕ) → (IsVariable node → ⊥) → node_at nodes i ≡ node → node_at (nodes ++ new ∷ []) i ≡ node
+pub pushed-keeps : (nodes : List Node) (new node : Node) (i : ℕ) → (IsVariable node → ⊥) → node_at nodes i ≡ node → node_at (nodes ++ new ∷ []) i ≡ node
 pushed-keeps nodes new node i not e = node_at-old nodes new i (inside-other nodes i node not e) ∙ e
 
 -- what stands after the new term's making stood before, or is the new term
-pushed-kept : (nodes : List Node) (new node : Node) (i : ℕ) → (IsVariable node → ⊥) → node_at (nodes ++ new ∷ []) i ≡ node → (node_at nodes i ≡ node) ⊎ ((i ≡ length nodes) × (new ≡ node))
+pub pushed-kept : (nodes : List Node) (new node : Node) (i : ℕ) → (IsVariable node → ⊥) → node_at (nodes ++ new ∷ []) i ≡ node → (node_at nodes i ≡ node) ⊎ ((i ≡ length nodes) × (new ≡ node))
 pushed-kept nodes new node i not e =
     elim (dec_lt i (length nodes)) as (λ _. (node_at nodes i ≡ node) ⊎ ((i ≡ length nodes) × (new ≡ node))) [
       | yes lt ↦ inl (sym (node_at-old nodes new i lt) ∙ e)
@@ -38,7 +38,7 @@ pushed-kept nodes new node i not e =
           inr (same, sym (node_at-new nodes new) ∙ ap (node_at (nodes ++ new ∷ [])) (sym same) ∙ e))
     ]
 
-links-pushed : (nodes : List Node) (form : Shape) (end i : ℕ) → LinksTo (nodes ++ End form ∷ []) end i → LinksTo nodes end i
+pub links-pushed : (nodes : List Node) (form : Shape) (end i : ℕ) → LinksTo (nodes ++ End form ∷ []) end i → LinksTo nodes end i
 links-pushed nodes form end _ (itself) = itself
 links-pushed nodes form end _ (further i next e r) =
     elim (pushed-kept nodes (End form) (Link next) i (λ v. v) e) as (λ _. LinksTo nodes end i) [
@@ -46,7 +46,7 @@ links-pushed nodes form end _ (further i next e r) =
       | inr g ↦ absurd (cc g.1)
     ]
 
-rest-kept : (nodes : List Node) (new : Node) (i : ℕ) → IsRest nodes i → IsRest (nodes ++ new ∷ []) i
+pub rest-kept : (nodes : List Node) (new : Node) (i : ℕ) → IsRest nodes i → IsRest (nodes ++ new ∷ []) i
 rest-kept nodes new i h =
     IsRest-kept nodes (nodes ++ new ∷ []) i
     (λ j next e. pushed-keeps nodes new (Link next) j (λ v. v) e)
@@ -71,7 +71,7 @@ rest-pushed nodes form i adds opaque h =
     was (End (shape.Row fields rest)) e o no_new leads = absurd o
     was (Link j) e o no_new leads = absurd o
 
-links-inside : (nodes : List Node) (bound end i : ℕ) → IsSound nodes bound → LinksTo nodes end i → i < length nodes → end < length nodes
+pub links-inside : (nodes : List Node) (bound end i : ℕ) → IsSound nodes bound → LinksTo nodes end i → i < length nodes → end < length nodes
 links-inside nodes bound end _ sound (itself) lt = lt
 links-inside nodes bound end _ sound (further i next e r) lt = links-inside nodes bound end next sound r (inside-link nodes i next bound sound e)
 

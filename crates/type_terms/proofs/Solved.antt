@@ -124,7 +124,7 @@ solves-narrowed nodes at had flag new s lt e both = (forth, back)
 -- a variable is linked --
 
 -- links after the change lead there before it, or first to the variable that was linked
-links-before : (nodes : List Node) (at to end i : ℕ) → at < length nodes → LinksTo (set nodes at (Link to)) end i → LinksTo nodes end i ⊎ (LinksTo nodes at i × LinksTo (set nodes at (Link to)) end to)
+pub links-before : (nodes : List Node) (at to end i : ℕ) → at < length nodes → LinksTo (set nodes at (Link to)) end i → LinksTo nodes end i ⊎ (LinksTo nodes at i × LinksTo (set nodes at (Link to)) end to)
 links-before nodes at to end _ lt (itself) = inl itself
 links-before nodes at to end _ lt (further i next e r) =
     elim (ℕ_discrete i at) as (λ _. LinksTo nodes end i ⊎ (LinksTo nodes at i × LinksTo (set nodes at (Link to)) end to)) [
@@ -138,7 +138,7 @@ links-before nodes at to end _ lt (further i next e r) =
     link-is j e = cc e
 
 -- where the variable doesn't stand, links are as before
-links-apart : (nodes : List Node) (at to end i : ℕ) → (StandsIn nodes at i → ⊥) → LinksTo (set nodes at (Link to)) end i → LinksTo nodes end i
+pub links-apart : (nodes : List Node) (at to end i : ℕ) → (StandsIn nodes at i → ⊥) → LinksTo (set nodes at (Link to)) end i → LinksTo nodes end i
 links-apart nodes at to end _ apart (itself) = itself
 links-apart nodes at to end _ apart (further i next e r) =
     let ne : i ≢ at = λ (same : i ≡ at). apart (subst (StandsIn nodes at) (sym same) here) in
