@@ -100,24 +100,37 @@ fn put_sets(out: &mut String, fields: &[Set]) -> Result<(), AllocError> {
     out.push_str(")")
 }
 
+/// The branches of a multi-way `if`.
 #[cycle(put_expr)]
-fn put_guards(out: &mut String, branches: &[(Expr, Expr)]) -> Result<(), AllocError> {
-    for (condition, value) in branches {
-        out.push_str(" | ")?;
-        put_expr(out, condition)?;
-        out.push_str(" -> ")?;
-        put_expr(out, value)?;
+fn put_guards(out: &mut String, tree: &Expr) -> Result<(), AllocError> {
+    out.push_str("(if")?;
+    if let Expr::Guards { branches, .. } = tree {
+        for (condition, value) in branches.as_slice() {
+            out.push_str(" | ")?;
+            put_expr(out, condition)?;
+            out.push_str(" -> ")?;
+            put_expr(out, value)?;
+        }
     }
     out.push_str(")")
 }
 
 #[cycle(put_expr)]
-fn put_branches(out: &mut String, branches: &[(Pattern, Expr)]) -> Result<(), AllocError> {
-    for (pattern, value) in branches {
-        out.push_str(" | ")?;
-        put_pattern(out, pattern)?;
-        out.push_str(" -> ")?;
-        put_expr(out, value)?;
+fn put_case(out: &mut String, tree: &Expr) -> Result<(), AllocError> {
+    out.push_str("(case ")?;
+    if let Expr::Case {
+        scrutinee,
+        branches,
+        ..
+    } = tree
+    {
+        put_expr(out, scrutinee.get())?;
+        for (pattern, value) in branches.as_slice() {
+            out.push_str(" | ")?;
+            put_pattern(out, pattern)?;
+            out.push_str(" -> ")?;
+            put_expr(out, value)?;
+        }
     }
     out.push_str(")")
 }
@@ -168,103 +181,112 @@ fn put_operators(out: &mut String, operators: &[Operator]) -> Result<(), AllocEr
     out.push_str(" of")
 }
 
-/// Two trees in brackets behind a word.
 #[cycle(put_expr)]
-fn put_two(out: &mut String, word: &str, first: &Expr, second: &Expr) -> Result<(), AllocError> {
-    out.push_str("(")?;
+fn put_parts(out: &mut String, word: &str, parts: &[Expr]) -> Result<(), AllocError> {
     out.push_str(word)?;
-    out.push_str(" ")?;
-    put_expr(out, first)?;
-    out.push_str(" ")?;
-    put_expr(out, second)?;
+    put_exprs(out, parts)
+}
+
+/// A word and a tree in brackets.
+#[cycle(put_expr)]
+fn put_one(out: &mut String, word: &str, tree: &Expr) -> Result<(), AllocError> {
+    out.push_str(word)?;
+    put_expr(out, tree)?;
     out.push_str(")")
 }
 
-/// A record form over another record.
+/// The end of a range behind its beginning.
 #[cycle(put_expr)]
-fn put_over(out: &mut String, word: &str, from: &Expr, fields: &[Set]) -> Result<(), AllocError> {
-    out.push_str("(")?;
-    out.push_str(word)?;
-    out.push_str(" ")?;
-    put_expr(out, from)?;
-    put_sets(out, fields)
-}
-
-/// A form that takes all that stands behind it.
-#[cycle(put_expr)]
-fn put_last_form(out: &mut String, tree: &Expr) -> Result<(), AllocError> {
-    match tree {
-        Expr::Lambda { patterns, body, .. } => {
-            out.push_str("(\\")?;
-            put_patterns(out, patterns.as_slice())?;
-            out.push_str(" -> ")?;
-            put_expr(out, body.get())?;
-            out.push_str(")")
-        }
-        Expr::If {
-            condition,
-            yes,
-            no,
-            ..
-        } => {
-            out.push_str("(if ")?;
-            put_expr(out, condition.get())?;
-            out.push_str(" ")?;
-            put_expr(out, yes.get())?;
-            out.push_str(" ")?;
-            put_expr(out, no.get())?;
-            out.push_str(")")
-        }
-        Expr::Guards { branches, .. } => {
-            out.push_str("(if")?;
-            put_guards(out, branches.as_slice())
-        }
-        Expr::Let {
-            definitions,
-            body,
-            ..
-        } => {
-            out.push_str("(let")?;
-            put_declarations(out, definitions.as_slice())?;
-            put_expr(out, body.get())?;
-            out.push_str(")")
-        }
-        Expr::Case {
-            scrutinee,
-            branches,
-            ..
-        } => {
-            out.push_str("(case ")?;
-            put_expr(out, scrutinee.get())?;
-            put_branches(out, branches.as_slice())
-        }
-        _ => out.push_str("?"),
+fn put_range(out: &mut String, tree: &Expr) -> Result<(), AllocError> {
+    if let Expr::Range { low, high, .. } = tree {
+        out.push_str("(range ")?;
+        put_expr(out, low.get())?;
+        put_one(out, " ", high.get())?;
     }
+    Ok(())
 }
 
+/// New fields, or new values of fields, over a record.
 #[cycle(put_expr)]
-fn put_record(out: &mut String, tree: &Expr) -> Result<(), AllocError> {
+fn put_over(out: &mut String, tree: &Expr) -> Result<(), AllocError> {
     match tree {
-        Expr::Fields { fields, .. } => {
-            out.push_str("(fields")?;
-            put_sets(out, fields.as_slice())
-        }
-        Expr::Extend { from, fields, .. } => put_over(out, "extend", from.get(), fields.as_slice()),
-        Expr::Update { from, fields, .. } => put_over(out, "update", from.get(), fields.as_slice()),
-        Expr::Remove {
-            from,
-            label,
-            fields,
-            ..
-        } => {
-            out.push_str("(without ")?;
-            put(out, label.bytes())?;
-            out.push_str(" ")?;
+        Expr::Extend { from, fields, .. } => {
+            out.push_str("(extend ")?;
             put_expr(out, from.get())?;
             put_sets(out, fields.as_slice())
         }
-        _ => put_last_form(out, tree),
+        Expr::Update { from, fields, .. } => {
+            out.push_str("(update ")?;
+            put_expr(out, from.get())?;
+            put_sets(out, fields.as_slice())
+        }
+        _ => Ok(()),
     }
+}
+
+#[cycle(put_expr)]
+fn put_lambda(out: &mut String, tree: &Expr) -> Result<(), AllocError> {
+    if let Expr::Lambda { patterns, body, .. } = tree {
+        out.push_str("(\\")?;
+        put_patterns(out, patterns.as_slice())?;
+        put_one(out, " -> ", body.get())?;
+    }
+    Ok(())
+}
+
+#[cycle(put_expr)]
+fn put_if(out: &mut String, tree: &Expr) -> Result<(), AllocError> {
+    if let Expr::If {
+        condition,
+        yes,
+        no,
+        ..
+    } = tree
+    {
+        out.push_str("(if ")?;
+        put_expr(out, condition.get())?;
+        out.push_str(" ")?;
+        put_expr(out, yes.get())?;
+        put_one(out, " ", no.get())?;
+    }
+    Ok(())
+}
+
+#[cycle(put_expr)]
+fn put_let(out: &mut String, tree: &Expr) -> Result<(), AllocError> {
+    if let Expr::Let {
+        definitions,
+        body,
+        ..
+    } = tree
+    {
+        out.push_str("(let")?;
+        put_declarations(out, definitions.as_slice())?;
+        put_one(out, "", body.get())?;
+    }
+    Ok(())
+}
+
+#[cycle(put_expr)]
+fn put_call(out: &mut String, tree: &Expr) -> Result<(), AllocError> {
+    if let Expr::Call {
+        function,
+        arguments,
+        ..
+    } = tree
+    {
+        out.push_str("(call ")?;
+        put_expr(out, function.get())?;
+        put_exprs(out, arguments.as_slice())?;
+    }
+    Ok(())
+}
+
+#[cycle(put_expr)]
+fn put_access(out: &mut String, from: &Expr, label: &[u8]) -> Result<(), AllocError> {
+    put_expr(out, from)?;
+    out.push_str("!")?;
+    put(out, label)
 }
 
 /// An atom without parts.
@@ -309,39 +331,35 @@ pub fn put_expr(out: &mut String, tree: &Expr) -> Result<(), AllocError> {
             put_operators(out, operators.as_slice())?;
             put_exprs(out, operands.as_slice())
         }
-        Expr::Negate { inner, .. } => {
-            out.push_str("(neg ")?;
-            put_expr(out, inner.get())?;
-            out.push_str(")")
+        Expr::Negate { inner, .. } => put_one(out, "(neg ", inner.get()),
+        Expr::Call { .. } => put_call(out, tree),
+        Expr::Access { from, label, .. } => put_access(out, from.get(), label.bytes()),
+        Expr::Brackets { inner, .. } => put_one(out, "(in ", inner.get()),
+        Expr::Tuple { parts, .. } => put_parts(out, "(tuple", parts.as_slice()),
+        Expr::List { parts, .. } => put_parts(out, "(list", parts.as_slice()),
+        Expr::Range { .. } => put_range(out, tree),
+        Expr::Fields { fields, .. } => {
+            out.push_str("(fields")?;
+            put_sets(out, fields.as_slice())
         }
-        Expr::Call {
-            function,
-            arguments,
+        Expr::Extend { .. } | Expr::Update { .. } => put_over(out, tree),
+        Expr::Remove {
+            from,
+            label,
+            fields,
             ..
         } => {
-            out.push_str("(call ")?;
-            put_expr(out, function.get())?;
-            put_exprs(out, arguments.as_slice())
-        }
-        Expr::Access { from, label, .. } => {
+            out.push_str("(without ")?;
+            put(out, label.bytes())?;
+            out.push_str(" ")?;
             put_expr(out, from.get())?;
-            out.push_str("!")?;
-            put(out, label.bytes())
+            put_sets(out, fields.as_slice())
         }
-        Expr::Brackets { inner, .. } => {
-            out.push_str("<")?;
-            put_expr(out, inner.get())?;
-            out.push_str(">")
-        }
-        Expr::Tuple { parts, .. } => {
-            out.push_str("(tuple")?;
-            put_exprs(out, parts.as_slice())
-        }
-        Expr::List { parts, .. } => {
-            out.push_str("(list")?;
-            put_exprs(out, parts.as_slice())
-        }
-        Expr::Range { low, high, .. } => put_two(out, "range", low.get(), high.get()),
-        _ => put_record(out, tree),
+        Expr::Lambda { .. } => put_lambda(out, tree),
+        Expr::If { .. } => put_if(out, tree),
+        Expr::Guards { .. } => put_guards(out, tree),
+        Expr::Let { .. } => put_let(out, tree),
+        Expr::Case { .. } => put_case(out, tree),
+        _ => out.push_str("?"),
     }
 }
