@@ -18,7 +18,9 @@ use Rattle.type_solve.specs.Rests.{IsBare, IsNoRest, type_parts, RestsApart, IsT
 use Rattle.type_solve.specs.Steps.{IsTail}
 use Rattle.type_solve.specs.Taken.{rest_term}
 use Rattle.type_solve.proofs.Adding.{DoesNoHarm, apart_pushed, type_pushed, no_rest_pushed, tail_pushed, row_harmless, row_type, leaf_harmless, leaf_row_harmless, parts_small}
+use Rattle.type_solve.proofs.Match.{each_append as fields_append}
 use Rattle.type_solve.proofs.Reading.{no_links}
+use Rattle.type_solve.proofs.Standing.{each_append, each_front}
 use Rattle.type_solve.proofs.Taking.{firsts}
 
 pub any_tail_pushed : (nodes : List Node) (form : Shape) (tail : Tail) → IsTail nodes tail → IsTail (nodes ++ End form ∷ []) tail
@@ -108,3 +110,18 @@ leaf_rest old one new at form e place f =
       ap (λ nodes. node_at nodes at) f ∙ node_at-old one (End (shape.Row [] (Some at))) at (omega (arith, long, place)) ∙ ap (λ nodes. node_at nodes at) e
           ∙ ap (node_at (old ++ End form ∷ [])) place ∙ node_at-new old (End form),
     )
+
+each_kept : (P Q : ℕ → Type 0) → ((k : ℕ) → P k → Q k) → (ks : List ℕ) → Each P ks → Each Q ks
+each_kept P Q f [] h = tt
+each_kept P Q f (k ∷ ks) h = (f k h.0, each_kept P Q f ks h.1)
+
+pub kept_types : (old new : List Node) (ks : List ℕ) → Keeps old new → Each (IsType old) ks → Each (IsType new) ks
+kept_types old new ks k h = each_kept (IsType old) (IsType new) k.types ks h
+
+-- a new type on top of others
+pub pushed_type : (old new : List Node) (stack stack' : List ℕ) (at : ℕ) → Keeps old new → Each (IsType old) stack → IsType new at → stack' ≡ stack ++ at ∷ [] → Each (IsType new) stack'
+pushed_type old new stack stack' at k h t e = subst (Each (IsType new)) (sym e) (each_append (IsType new) stack (at ∷ []) (kept_types old new stack k h) (t, tt))
+
+pub field_pushed : (nodes : List Node) (fields fields' : Fields) (name : List ℕ) (at : ℕ) → Each (IsType nodes) (terms_of fields) → IsType nodes at → fields' ≡ fields ++ (name, at) ∷ [] → Each (IsType nodes) (terms_of fields')
+field_pushed nodes fields fields' name at h t e =
+    subst (λ (fs : Fields). Each (IsType nodes) (terms_of fs)) (sym e) (fields_append (IsType nodes) fields ((name, at) ∷ []) h (t, tt))

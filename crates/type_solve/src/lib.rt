@@ -18,3 +18,6 @@ pub use build::{make_rest, make_rigid_rest, make_row, make_type};
 pub use rows::Tail;
 pub use type_sorts::{NoSolution, sorts};
 pub use solver::unify;
+
+#[cfg(test)]
+mod tests;
