@@ -150,7 +150,15 @@ fn meets(
 #[test]
 fn rows_meet_label_by_label(rt: HostRuntime) -> Result<(), Fail> {
     let alloc = rt.alloc();
-    assert!(rt; meets(alloc, &[(b'x', 0), (b'y', 1)], b'.', &[(b'y', 1), (b'x', 0)], b'.')?);
+    assert!(rt;
+        meets(
+            alloc,
+            &[(b'x', 0), (b'y', 1)],
+            b'.',
+            &[(b'y', 1), (b'x', 0)],
+            b'.'
+        )?
+    );
     assert!(rt; !meets(alloc, &[(b'x', 0), (b'y', 1)], b'.', &[(b'x', 0)], b'.')?);
     assert!(rt; meets(alloc, &[(b'x', 0), (b'y', 1)], b'.', &[(b'x', 2)], b'r')?);
     assert!(rt; meets(alloc, &[(b'x', 0)], b'r', &[(b'y', 1)], b's')?);
@@ -169,11 +177,43 @@ fn flags_and_the_occurs_check_refuse(rt: HostRuntime) -> Result<(), Fail> {
     let alloc = rt.alloc();
     assert!(rt; meets(alloc, &[(b'x', 4)], b'.', &[(b'x', 0)], b'.')?);
     assert!(rt; !meets(alloc, &[(b'x', 5)], b'.', &[(b'x', 0)], b'.')?);
-    assert!(rt; meets(alloc, &[(b'x', 5), (b'y', 4)], b'.', &[(b'x', 1), (b'y', 1)], b'.')?);
+    assert!(rt;
+        meets(
+            alloc,
+            &[(b'x', 5), (b'y', 4)],
+            b'.',
+            &[(b'x', 1), (b'y', 1)],
+            b'.'
+        )?
+    );
     assert!(rt; !meets(alloc, &[(b'x', 4)], b'.', &[(b'x', 7)], b'.')?);
-    assert!(rt; meets(alloc, &[(b'x', 4), (b'y', 2)], b'.', &[(b'x', 6), (b'y', 0)], b'.')?);
-    assert!(rt; !meets(alloc, &[(b'x', 4), (b'y', 2)], b'.', &[(b'x', 6), (b'y', 7)], b'.')?);
+    assert!(rt;
+        meets(
+            alloc,
+            &[(b'x', 4), (b'y', 2)],
+            b'.',
+            &[(b'x', 6), (b'y', 0)],
+            b'.'
+        )?
+    );
+    assert!(rt;
+        !meets(
+            alloc,
+            &[(b'x', 4), (b'y', 2)],
+            b'.',
+            &[(b'x', 6), (b'y', 7)],
+            b'.'
+        )?
+    );
     assert!(rt; !meets(alloc, &[(b'x', 2)], b'.', &[(b'x', 6)], b'.')?);
-    assert!(rt; !meets(alloc, &[(b'x', 2), (b'y', 3)], b'.', &[(b'x', 3), (b'y', 6)], b'.')?);
+    assert!(rt;
+        !meets(
+            alloc,
+            &[(b'x', 2), (b'y', 3)],
+            b'.',
+            &[(b'x', 3), (b'y', 6)],
+            b'.'
+        )?
+    );
     Ok(())
 }

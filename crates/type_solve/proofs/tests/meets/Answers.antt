@@ -1,4 +1,4 @@
-use Rattle.std.proofs.Common.{sym, subst, List, ℕ}
+use Rattle.std.proofs.Common.{sym, subst}
 use Rattle.type_terms.specs.Terms.{nodes_of, Each}
 use Rattle.type_solve.specs.Rests.{IsType}
 use Rattle.type_solve.proofs.Building.{kept_types, keeps_both}

@@ -1,6 +1,3 @@
-use Rattle.std.proofs.Common.{sym, subst}
-use Rattle.type_terms.specs.Terms.{nodes_of, Each}
-use Rattle.type_solve.specs.Rests.{IsType}
 use Rattle.type_solve.proofs.Building.{pushed_type}
 use Rattle.type_solve.proofs.tests.push_type.Goals as goal
 
