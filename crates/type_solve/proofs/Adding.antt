@@ -1,6 +1,6 @@
 -- What a new term leaves.
-use Rattle.std.proofs.Common.{◌≡◌, ◌≢◌, ◌⊎◌, ℕ, suc, ◌+◌, ◌<◌, ◌≤◌, List, [], ◌∷◌, ◌++◌, length, Option, Some, None, refl, sym, ◌∙◌, ap, subst, arith, inl, inr, length-append}
-use native.Mathlib.Decide.{ℕ_discrete, dec_lt}
+use Rattle.std.proofs.Common.{◌≡◌, ◌⊎◌, ℕ, ◌+◌, ◌<◌, ◌≤◌, List, [], ◌∷◌, ◌++◌, length, Option, Some, None, refl, sym, ◌∙◌, ap, subst, arith, inl, inr, length-append}
+use native.Mathlib.Decide.{dec_lt}
 use Rattle.elm_typing.specs.declared.flag.Flag.{Flag}
 use Rattle.elm_typing.specs.declared.flag.Flag.TheVariants.{Plain}
 use Rattle.type_terms.specs.declared.node.Node.{Node}
@@ -9,7 +9,7 @@ use Rattle.type_terms.specs.declared.shape.Shape.{Shape}
 use Rattle.type_terms.specs.declared.shape.Shape.TheVariants as shape
 use Rattle.type_terms.specs.Depth.{IsBelow, IsSound}
 use Rattle.type_terms.specs.Solutions.{MayBeRest}
-use Rattle.type_terms.specs.Terms.{node_at, parts, below, terms_of, Each, Among, LinksTo, itself, StandsIn, here, within, IsLink, IsVariable, IsRest, unlinked}
+use Rattle.type_terms.specs.Terms.{node_at, below, terms_of, Each, Among, LinksTo, IsLink, IsRest, unlinked}
 use Rattle.type_terms.proofs.Pushed.{links-pushed, pushed-kept, rest-kept, links-inside}
 use Rattle.type_terms.proofs.Sound.{node_at-old, node_at-new, node_at-past, by_place}
 use Rattle.type_solve.specs.declared.rows.Tail.{Tail}
@@ -17,7 +17,7 @@ use Rattle.type_solve.specs.declared.rows.Tail.TheVariants.{Closed, Rigid, Open}
 use Rattle.type_solve.specs.Taken.{rest_term}
 use Rattle.type_solve.specs.Matching.{Fields}
 use Rattle.type_solve.specs.Rests.{IsBare, IsNoRest, type_parts, RestsApart, IsType}
-use Rattle.type_solve.specs.Steps.{IsRow, IsTail}
+use Rattle.type_solve.specs.Steps.{IsTail}
 use Rattle.type_solve.proofs.Reading.{no_links, each_at}
 
 -- a new term of this shape does no harm to rests: all type parts are below n, and what its rest leads to is the rest
@@ -166,8 +166,7 @@ leaf_row_harmless nodes bound form fields sound bare may types = record {
       (λ k t. (t.0, no_rest_pushed nodes (length nodes) form k (leaf_harmless nodes bound form sound bare) t.0 t.1)) (terms_of fields) types;
   rest = λ fs y e. (let x : length nodes ≡ y = cc e in
       subst (λ (j : ℕ). (IsLink (node_at (nodes ++ End form ∷ []) j) → ⊥) × MayBeRest (node_at (nodes ++ End form ∷ []) j) × (j < length (nodes ++ End form ∷ []))
-          × (IsRest (nodes ++ End form ∷ []) j ⊎ ((i : ℕ) → i < length nodes → LinksTo (nodes ++ End form ∷ []) j i → ⊥))) x
-      (
+      × (IsRest (nodes ++ End form ∷ []) j ⊎ ((i : ℕ) → i < length nodes → LinksTo (nodes ++ End form ∷ []) j i → ⊥))) x (
         (λ l. subst IsLink (node_at-new nodes (End form)) l),
         subst MayBeRest (sym (node_at-new nodes (End form))) may,
         (let l = length-append nodes (End form ∷ []) in omega (arith, l)),

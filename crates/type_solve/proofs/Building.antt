@@ -1,13 +1,12 @@
 -- New terms keep rests apart from other types.
-use Rattle.std.proofs.Common.{◌≡◌, ◌≢◌, ◌⊎◌, ℕ, suc, ◌+◌, ◌<◌, ◌≤◌, List, [], ◌∷◌, ◌++◌, length, Option, Some, None, refl, sym, ◌∙◌, ap, subst, arith, length-append}
-use Rattle.elm_typing.specs.declared.flag.Flag.TheVariants.{Plain}
+use Rattle.std.proofs.Common.{◌≡◌, ℕ, suc, ◌<◌, List, [], ◌∷◌, ◌++◌, length, Some, None, sym, ◌∙◌, ap, subst, arith, length-append}
 use Rattle.type_terms.specs.declared.node.Node.{Node}
-use Rattle.type_terms.specs.declared.node.Node.TheVariants.{End, Link}
+use Rattle.type_terms.specs.declared.node.Node.TheVariants.{End}
 use Rattle.type_terms.specs.declared.shape.Shape.{Shape}
 use Rattle.type_terms.specs.declared.shape.Shape.TheVariants as shape
 use Rattle.type_terms.specs.Solutions.{MayBeRest}
-use Rattle.type_terms.specs.Depth.{IsBelow, IsSound}
-use Rattle.type_terms.specs.Terms.{State, nodes_of, notes_of, node_at, parts, terms_of, Each, LinksTo, itself, IsLink, IsRest}
+use Rattle.type_terms.specs.Depth.{IsSound}
+use Rattle.type_terms.specs.Terms.{node_at, parts, terms_of, Each, itself, IsLink, IsRest}
 use Rattle.type_terms.proofs.Pushed.{rest-kept, new-no_rest}
 use Rattle.type_terms.proofs.Sound.{node_at-old, node_at-new}
 use Rattle.type_solve.specs.declared.rows.Tail.{Tail}
@@ -18,7 +17,9 @@ use Rattle.type_solve.specs.Rests.{IsBare, IsNoRest, type_parts, RestsApart, IsT
 use Rattle.type_solve.specs.Steps.{IsTail}
 use Rattle.type_solve.specs.Taken.{rest_term}
 use Rattle.type_solve.proofs.Adding.{DoesNoHarm, apart_pushed, type_pushed, no_rest_pushed, tail_pushed, row_harmless, row_type, leaf_harmless, leaf_row_harmless, parts_small}
+use Rattle.type_solve.proofs.Match.{each_append as fields_append}
 use Rattle.type_solve.proofs.Reading.{no_links}
+use Rattle.type_solve.proofs.Standing.{each_append}
 use Rattle.type_solve.proofs.Taking.{firsts}
 
 pub any_tail_pushed : (nodes : List Node) (form : Shape) (tail : Tail) → IsTail nodes tail → IsTail (nodes ++ End form ∷ []) tail
@@ -87,7 +88,7 @@ pub leaf_keeps : (old one new : List Node) (bound more at : ℕ) (form : Shape) 
 leaf_keeps old one new bound more at form bare may sound sound_one apart e place f =
     let harmless : DoesNoHarm one (length old) (shape.Row [] (Some at))
     = subst (λ (nodes : List Node). DoesNoHarm nodes (length old) (shape.Row [] (Some at))) (sym e)
-        (subst (λ (j : ℕ). DoesNoHarm (old ++ End form ∷ []) (length old) (shape.Row [] (Some j))) (sym place) (leaf_row_harmless old bound form [] sound bare may tt)) in
+    (subst (λ (j : ℕ). DoesNoHarm (old ++ End form ∷ []) (length old) (shape.Row [] (Some j))) (sym place) (leaf_row_harmless old bound form [] sound bare may tt)) in
     let first = leaf_harmless old bound form sound bare in
     let long : length one ≡ suc (length old) = ap length e ∙ length-append old (End form ∷ []) ∙ omega arith in
     subst (Keeps old) (sym f) (record {
@@ -101,10 +102,24 @@ pub leaf_rest : (old one new : List Node) (at : ℕ) (form : Shape) → one ≡ 
     (at < length new) × IsRest new at × (node_at new at ≡ End form)
 leaf_rest old one new at form e place f =
     let long : length one ≡ suc (length old) = ap length e ∙ length-append old (End form ∷ []) ∙ omega arith in
-    let new_long : length new ≡ suc (length one) = ap length f ∙ length-append one (End (shape.Row [] (Some at)) ∷ []) ∙ omega arith in
-    (
+    let new_long : length new ≡ suc (length one) = ap length f ∙ length-append one (End (shape.Row [] (Some at)) ∷ []) ∙ omega arith in (
       omega (arith, long, new_long, place),
       record { row = length one; fields = []; rest = at; stands = ap (λ nodes. node_at nodes (length one)) f ∙ node_at-new one (End (shape.Row [] (Some at))); leads = itself },
       ap (λ nodes. node_at nodes at) f ∙ node_at-old one (End (shape.Row [] (Some at))) at (omega (arith, long, place)) ∙ ap (λ nodes. node_at nodes at) e
           ∙ ap (node_at (old ++ End form ∷ [])) place ∙ node_at-new old (End form),
     )
+
+each_kept : (P Q : ℕ → Type 0) → ((k : ℕ) → P k → Q k) → (ks : List ℕ) → Each P ks → Each Q ks
+each_kept P Q f [] h = tt
+each_kept P Q f (k ∷ ks) h = (f k h.0, each_kept P Q f ks h.1)
+
+pub kept_types : (old new : List Node) (ks : List ℕ) → Keeps old new → Each (IsType old) ks → Each (IsType new) ks
+kept_types old new ks k h = each_kept (IsType old) (IsType new) k.types ks h
+
+-- a new type on top of others
+pub pushed_type : (old new : List Node) (stack stack' : List ℕ) (at : ℕ) → Keeps old new → Each (IsType old) stack → IsType new at → stack' ≡ stack ++ at ∷ [] → Each (IsType new) stack'
+pushed_type old new stack stack' at k h t e = subst (Each (IsType new)) (sym e) (each_append (IsType new) stack (at ∷ []) (kept_types old new stack k h) (t, tt))
+
+pub field_pushed : (nodes : List Node) (fields fields' : Fields) (name : List ℕ) (at : ℕ) → Each (IsType nodes) (terms_of fields) → IsType nodes at → fields' ≡ fields ++ (name, at) ∷ [] → Each (IsType nodes) (terms_of fields')
+field_pushed nodes fields fields' name at h t e =
+    subst (λ (fs : Fields). Each (IsType nodes) (terms_of fs)) (sym e) (fields_append (IsType nodes) fields ((name, at) ∷ []) h (t, tt))

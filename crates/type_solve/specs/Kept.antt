@@ -1,5 +1,5 @@
 -- What new terms keep.
-use Rattle.std.specs.Prelude.{ℕ, List, Option, Some, None}
+use Rattle.std.specs.Prelude.{ℕ, List, Some}
 use Rattle.type_terms.specs.declared.node.Node.{Node}
 use Rattle.type_terms.specs.declared.shape.Shape.{Shape}
 use Rattle.type_terms.specs.declared.shape.Shape.TheVariants as shape

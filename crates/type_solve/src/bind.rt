@@ -13,11 +13,11 @@ ghost use Rattle.type_terms.specs.Solutions.{Assignment, Solves};
 ghost use Rattle.type_terms.specs.Terms.{nodes_of, node_at, IsVariable, IsLink, StandsIn};
 
 use crate::flags::narrow_all;
-use type_sorts::NoSolution;
 use crate::occurs::stands_in;
 use crate::read::shape_at;
 use elm_base::Halt;
 use std::alloc::Global;
+use type_sorts::NoSolution;
 use type_terms::{Flag, Shape, Store, TermId};
 
 /// The flag of an unlinked variable.

@@ -11,12 +11,12 @@ ghost use Rattle.type_solve.specs.Rests.{RestsApart, IsType};
 ghost use Rattle.type_terms.specs.Solutions.{Assignment, Solves};
 ghost use Rattle.type_terms.specs.Terms.{nodes_of};
 
-use type_sorts::NoSolution;
 use crate::parts::{is_variable, push_parts};
 use crate::read::shape_at;
 use elm_base::{Halt, Name, NoMemory};
 use sqlite_items::Items;
 use std::alloc::Global;
+use type_sorts::NoSolution;
 use type_terms::{Flag, Shape, Store, TermId};
 
 /// Whether types of this shape are comparable where all parts are.

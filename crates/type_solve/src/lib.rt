@@ -16,5 +16,8 @@ mod take;
 
 pub use build::{make_rest, make_rigid_rest, make_row, make_type};
 pub use rows::Tail;
-pub use type_sorts::{NoSolution, sorts};
 pub use solver::unify;
+pub use type_sorts::{NoSolution, sorts};
+
+#[cfg(test)]
+mod tests;

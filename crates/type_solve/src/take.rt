@@ -17,12 +17,12 @@ ghost use Rattle.type_terms.specs.Solutions.{Assignment, Solves, fields_of};
 ghost use Rattle.type_terms.specs.Terms.{nodes_of, terms_of, Each};
 
 use crate::bind::bind;
-use type_sorts::NoSolution;
 use crate::rows::{Tail, rest_term};
 use crate::step::Step;
 use elm_base::{Halt, Name};
 use sqlite_items::Items;
 use std::alloc::Global;
+use type_sorts::NoSolution;
 use type_terms::{Flag, Shape, Store, TermId};
 
 /// The rest is to be these fields over the tail.
