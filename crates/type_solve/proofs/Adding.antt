@@ -1,6 +1,6 @@
 -- What a new term leaves.
-use Rattle.std.proofs.Common.{◌≡◌, ◌≢◌, ◌⊎◌, ℕ, suc, ◌+◌, ◌<◌, ◌≤◌, List, [], ◌∷◌, ◌++◌, length, Option, Some, None, refl, sym, ◌∙◌, ap, subst, arith, inl, inr, length-append}
-use native.Mathlib.Decide.{ℕ_discrete, dec_lt}
+use Rattle.std.proofs.Common.{◌≡◌, ◌⊎◌, ℕ, ◌+◌, ◌<◌, ◌≤◌, List, [], ◌∷◌, ◌++◌, length, Option, Some, None, refl, sym, ◌∙◌, ap, subst, arith, inl, inr, length-append}
+use native.Mathlib.Decide.{dec_lt}
 use Rattle.elm_typing.specs.declared.flag.Flag.{Flag}
 use Rattle.elm_typing.specs.declared.flag.Flag.TheVariants.{Plain}
 use Rattle.type_terms.specs.declared.node.Node.{Node}
@@ -9,7 +9,7 @@ use Rattle.type_terms.specs.declared.shape.Shape.{Shape}
 use Rattle.type_terms.specs.declared.shape.Shape.TheVariants as shape
 use Rattle.type_terms.specs.Depth.{IsBelow, IsSound}
 use Rattle.type_terms.specs.Solutions.{MayBeRest}
-use Rattle.type_terms.specs.Terms.{node_at, parts, below, terms_of, Each, Among, LinksTo, itself, StandsIn, here, within, IsLink, IsVariable, IsRest, unlinked}
+use Rattle.type_terms.specs.Terms.{node_at, below, terms_of, Each, Among, LinksTo, IsLink, IsRest, unlinked}
 use Rattle.type_terms.proofs.Pushed.{links-pushed, pushed-kept, rest-kept, links-inside}
 use Rattle.type_terms.proofs.Sound.{node_at-old, node_at-new, node_at-past, by_place}
 use Rattle.type_solve.specs.declared.rows.Tail.{Tail}
@@ -17,7 +17,7 @@ use Rattle.type_solve.specs.declared.rows.Tail.TheVariants.{Closed, Rigid, Open}
 use Rattle.type_solve.specs.Taken.{rest_term}
 use Rattle.type_solve.specs.Matching.{Fields}
 use Rattle.type_solve.specs.Rests.{IsBare, IsNoRest, type_parts, RestsApart, IsType}
-use Rattle.type_solve.specs.Steps.{IsRow, IsTail}
+use Rattle.type_solve.specs.Steps.{IsTail}
 use Rattle.type_solve.proofs.Reading.{no_links, each_at}
 
 -- a new term of this shape does no harm to rests: all type parts are below n, and what its rest leads to is the rest
@@ -136,23 +136,47 @@ row_harmless nodes bound fields (Open at) sound types t = record {
       ((λ l. subst IsLink t.2 l), subst MayBeRest (sym t.2) tt, t.0, inl t.1));
 }
 
--- a new row over a new variable
-pub fresh_row_harmless : (nodes : List Node) (bound : ℕ) (fields : Fields) → IsSound nodes bound → Each (IsType nodes) (terms_of fields) →
-    DoesNoHarm (nodes ++ End (shape.Variable Plain) ∷ []) (length nodes) (shape.Row fields (Some (length nodes)))
-fresh_row_harmless nodes bound fields sound types = record {
-  small = by_place (λ i node. Each (IsBelow (length nodes)) (type_parts node)) nodes (End (shape.Variable Plain)) (λ i lt. parts_small nodes bound i sound) tt (λ i. tt);
-  types = each_map (IsType nodes) (λ k. (k < length nodes) × IsNoRest (nodes ++ End (shape.Variable Plain) ∷ []) k)
-      (λ k t. (t.0, no_rest_pushed nodes (length nodes) (shape.Variable Plain) k (variable_harmless nodes bound Plain sound) t.0 t.1)) (terms_of fields) types;
+-- a new variable or opaque type
+pub leaf_harmless : (nodes : List Node) (bound : ℕ) (form : Shape) → IsSound nodes bound → IsBare (End form) → DoesNoHarm nodes (length nodes) form
+leaf_harmless nodes bound (shape.Variable flag) sound b = variable_harmless nodes bound flag sound
+leaf_harmless nodes bound (shape.Opaque number flag) sound b = record {
+  small = λ i. parts_small nodes bound i sound;
+  types = tt;
+  rest = λ fields y e. cc e;
+}
+leaf_harmless nodes bound (shape.Named name ks) sound b = absurd b
+leaf_harmless nodes bound (shape.Arrow from to) sound b = absurd b
+leaf_harmless nodes bound (shape.Tuple ks) sound b = absurd b
+leaf_harmless nodes bound (shape.Row fields rest) sound b = absurd b
+
+bare_parts : (n : ℕ) (form : Shape) → IsBare (End form) → Each (IsBelow n) (type_parts (End form))
+bare_parts n (shape.Variable flag) b = tt
+bare_parts n (shape.Opaque number flag) b = tt
+bare_parts n (shape.Named name ks) b = absurd b
+bare_parts n (shape.Arrow from to) b = absurd b
+bare_parts n (shape.Tuple ks) b = absurd b
+bare_parts n (shape.Row fields rest) b = absurd b
+
+-- a new row over a new variable or opaque type
+pub leaf_row_harmless : (nodes : List Node) (bound : ℕ) (form : Shape) (fields : Fields) → IsSound nodes bound → IsBare (End form) → MayBeRest (End form) → Each (IsType nodes) (terms_of fields) →
+    DoesNoHarm (nodes ++ End form ∷ []) (length nodes) (shape.Row fields (Some (length nodes)))
+leaf_row_harmless nodes bound form fields sound bare may types = record {
+  small = by_place (λ i node. Each (IsBelow (length nodes)) (type_parts node)) nodes (End form) (λ i lt. parts_small nodes bound i sound) (bare_parts (length nodes) form bare) (λ i. tt);
+  types = each_map (IsType nodes) (λ k. (k < length nodes) × IsNoRest (nodes ++ End form ∷ []) k)
+      (λ k t. (t.0, no_rest_pushed nodes (length nodes) form k (leaf_harmless nodes bound form sound bare) t.0 t.1)) (terms_of fields) types;
   rest = λ fs y e. (let x : length nodes ≡ y = cc e in
-      subst (λ (j : ℕ). (IsLink (node_at (nodes ++ End (shape.Variable Plain) ∷ []) j) → ⊥) × MayBeRest (node_at (nodes ++ End (shape.Variable Plain) ∷ []) j) × (j < length (nodes ++ End (shape.Variable Plain) ∷ []))
-          × (IsRest (nodes ++ End (shape.Variable Plain) ∷ []) j ⊎ ((i : ℕ) → i < length nodes → LinksTo (nodes ++ End (shape.Variable Plain) ∷ []) j i → ⊥))) x
-      (
-        (λ l. subst IsLink (node_at-new nodes (End (shape.Variable Plain))) l),
-        subst MayBeRest (sym (node_at-new nodes (End (shape.Variable Plain)))) tt,
-        (let l = length-append nodes (End (shape.Variable Plain) ∷ []) in omega (arith, l)),
-        inr (λ i lt leads. let back = links-inside nodes bound (length nodes) i sound (links-pushed nodes (shape.Variable Plain) (length nodes) i leads) lt in omega (arith, back)),
+      subst (λ (j : ℕ). (IsLink (node_at (nodes ++ End form ∷ []) j) → ⊥) × MayBeRest (node_at (nodes ++ End form ∷ []) j) × (j < length (nodes ++ End form ∷ []))
+      × (IsRest (nodes ++ End form ∷ []) j ⊎ ((i : ℕ) → i < length nodes → LinksTo (nodes ++ End form ∷ []) j i → ⊥))) x (
+        (λ l. subst IsLink (node_at-new nodes (End form)) l),
+        subst MayBeRest (sym (node_at-new nodes (End form))) may,
+        (let l = length-append nodes (End form ∷ []) in omega (arith, l)),
+        inr (λ i lt leads. let back = links-inside nodes bound (length nodes) i sound (links-pushed nodes form (length nodes) i leads) lt in omega (arith, back)),
       ));
 }
+
+pub fresh_row_harmless : (nodes : List Node) (bound : ℕ) (fields : Fields) → IsSound nodes bound → Each (IsType nodes) (terms_of fields) →
+    DoesNoHarm (nodes ++ End (shape.Variable Plain) ∷ []) (length nodes) (shape.Row fields (Some (length nodes)))
+fresh_row_harmless nodes bound fields sound types = leaf_row_harmless nodes bound (shape.Variable Plain) fields sound tt tt types
 
 pub type_pushed : (nodes : List Node) (n : ℕ) (form : Shape) (i : ℕ) → DoesNoHarm nodes n form → i < n → n ≤ length nodes → IsNoRest nodes i → IsType (nodes ++ End form ∷ []) i
 type_pushed nodes n form i d lt le none = ((let l = length-append nodes (End form ∷ []) in omega (arith, l)), no_rest_pushed nodes n form i d lt none)

@@ -1,24 +1,24 @@
 -- What makes types comparable and appendable.
-use Rattle.std.proofs.Common.{◌≡◌, ◌≢◌, ◌⊎◌, ◌↔◌, ℕ, suc, ◌+◌, ◌<◌, ◌≤◌, List, [], ◌∷◌, ◌++◌, length, Option, Some, None, refl, sym, ◌∙◌, ap, subst, arith, inl, inr}
+use Rattle.std.proofs.Common.{◌≡◌, ◌↔◌, ℕ, ◌<◌, List, [], ◌∷◌, ◌++◌, length, Some, None, sym, subst}
 use Rattle.elm_typing.specs.declared.flag.Flag.{Flag}
 use Rattle.elm_typing.specs.declared.flag.Flag.TheVariants.{Plain, Comparable, Appendable, Both}
 use Rattle.elm_typing.specs.Flags.{IsComparable, AllComparable, IsAppendable, HasFlag}
-use Rattle.elm_typing.specs.Ground.{Ground, Grounds}
+use Rattle.elm_typing.specs.Ground.{Ground}
 use Rattle.type_terms.specs.declared.node.Node.{Node}
-use Rattle.type_terms.specs.declared.node.Node.TheVariants.{End, Link}
+use Rattle.type_terms.specs.declared.node.Node.TheVariants.{End}
 use Rattle.type_terms.specs.declared.shape.Shape.{Shape}
 use Rattle.type_terms.specs.declared.shape.Shape.TheVariants as shape
-use Rattle.type_terms.specs.Depth.{IsBelow, sum_of, weight}
+use Rattle.type_terms.specs.Depth.{IsBelow}
 use Rattle.type_terms.specs.Solutions.{Assignment, Solves, Fits, types_of}
-use Rattle.type_terms.specs.Terms.{State, nodes_of, node_at, parts, below, Each, Among, LinksTo, StandsIn, here, within, IsLink, IsVariable}
+use Rattle.type_terms.specs.Terms.{State, nodes_of, node_at, parts, below, Each, Among, LinksTo, StandsIn, here, within, IsVariable}
 use Rattle.type_solve.specs.declared.flags.Demand.{Demand}
 use Rattle.type_solve.specs.Flagged.{AllowsOrder, AllowsJoining, AllHave, StandWithin, Demands}
-use Rattle.type_solve.specs.Heads.{IsVariableShape, IsRowShape}
+use Rattle.type_solve.specs.Heads.{IsVariableShape}
 use Rattle.type_solve.specs.Rests.{IsNoRest, RestsApart, IsType, type_parts}
 use Rattle.type_solve.specs.Steps.{IsShapeAt}
 use Rattle.type_solve.proofs.Heads.{fits_type}
 use Rattle.type_solve.proofs.Reading.{each_both, links_same}
-use Rattle.type_solve.proofs.Standing.{each_append, each_front, each_of, sum_append, along_links}
+use Rattle.type_solve.proofs.Standing.{each_append, each_front, each_of, along_links}
 use Rattle.type_solve.proofs.Visiting.{taken_type}
 
 abbrev pub AreComparable : Assignment → List ℕ → Type 0
@@ -149,13 +149,15 @@ asks_variable store at waiting rest term end found more sh a e leads lt is v m =
   back = λ s h c d.
       let r = have_parts s found (record { at = end; flag = Comparable } ∷ []) d in
       a.back s h (subst (AreComparable s) (sym e) (each_append (λ k. IsComparable (s k)) rest (term ∷ []) c
-          (subst IsComparable (sym (links_same (nodes_of store) s end term h leads)) r.1.0, tt))) r.0;
-  variables = within_append (nodes_of store) at found (record { at = end; flag = Comparable } ∷ []) a.variables
-      ((
-        variable_at (nodes_of store) end sh is.here v,
-        taken_type (nodes_of store) end term (asks_type (nodes_of store) at waiting rest term found a e) leads lt,
-        (each_front P rest term (subst (Each P) e a.stands)).1 end (along_links (nodes_of store) end end term leads here),
-      ), tt);
+      (subst IsComparable (sym (links_same (nodes_of store) s end term h leads)) r.1.0, tt))) r.0;
+  variables = within_append (nodes_of store) at found (record { at = end; flag = Comparable } ∷ []) a.variables (
+    (
+      variable_at (nodes_of store) end sh is.here v,
+      taken_type (nodes_of store) end term (asks_type (nodes_of store) at waiting rest term found a e) leads lt,
+      (each_front P rest term (subst (Each P) e a.stands)).1 end (along_links (nodes_of store) end end term leads here),
+    ),
+    tt,
+  );
 })
   where
     P : ℕ → Type 0
@@ -181,7 +183,7 @@ asks_parts store at waiting rest after term end found sh apart a e leads lt is v
   back = λ s h c d.
       let w = each_parts (λ k. IsComparable (s k)) rest (parts sh) c in
       a.back s h (subst (AreComparable s) (sym e) (each_append (λ k. IsComparable (s k)) rest (term ∷ []) w.0
-          (subst IsComparable (sym (links_same (nodes_of store) s end term h leads)) (order_back s (s end) sh v (fits s h) allows w.1), tt))) d;
+      (subst IsComparable (sym (links_same (nodes_of store) s end term h leads)) (order_back s (s end) sh v (fits s h) allows w.1), tt))) d;
   variables = a.variables;
 })
   where
@@ -202,8 +204,8 @@ asks_refused store at waiting rest term end found sh a e leads lt is v never s h
     let r = a.to s h c in
     let w = each_front (λ k. IsComparable (s k)) rest term (subst (AreComparable s) e r.0) in
     never (order_to s (s end) sh v
-        (fits_type (nodes_of store) s end sh (taken_type (nodes_of store) end term (asks_type (nodes_of store) at waiting rest term found a e) leads lt).1 is.here h)
-        (subst IsComparable (links_same (nodes_of store) s end term h leads) w.1)).0
+    (fits_type (nodes_of store) s end sh (taken_type (nodes_of store) end term (asks_type (nodes_of store) at waiting rest term found a e) leads lt).1 is.here h)
+    (subst IsComparable (links_same (nodes_of store) s end term h leads) w.1)).0
 
 pub asks_done : (nodes : List Node) (at : ℕ) (waiting : List ℕ) (found : List Demand) → Asks nodes at waiting found → waiting ≡ [] → Demands nodes at Comparable found
 asks_done nodes at waiting found a e = record {

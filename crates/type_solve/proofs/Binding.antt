@@ -1,23 +1,21 @@
 -- What a link leaves.
-use Rattle.std.proofs.Common.{◌≡◌, ◌≢◌, ◌⊎◌, ◌↔◌, ℕ, suc, ◌+◌, ◌<◌, ◌≤◌, List, [], ◌∷◌, ◌++◌, length, set, Option, Some, None, refl, sym, ◌∙◌, ap, subst, arith, inl, inr, length-set}
+use Rattle.std.proofs.Common.{◌≡◌, ◌≢◌, ◌⊎◌, ◌↔◌, ℕ, ◌+◌, ◌<◌, List, ◌∷◌, length, set, Some, sym, ◌∙◌, ap, subst, arith, inl, inr, length-set}
 use native.Mathlib.Decide.{ℕ_discrete}
 use Rattle.elm_typing.specs.declared.flag.Flag.{Flag}
 use Rattle.elm_typing.specs.Flags.{HasFlag}
-use Rattle.elm_typing.specs.Ground.{Ground}
 use Rattle.type_terms.specs.declared.node.Node.{Node}
 use Rattle.type_terms.specs.declared.node.Node.TheVariants.{End, Link}
 use Rattle.type_terms.specs.declared.shape.Shape.TheVariants as shape
-use Rattle.type_terms.specs.Depth.{IsSound}
-use Rattle.type_terms.specs.Solutions.{Assignment, MayBeRest, Solves, Fits, FitsNode, IsNoNewRest}
+use Rattle.type_terms.specs.Solutions.{Assignment, MayBeRest, Solves, FitsNode, IsNoNewRest}
 use Rattle.type_terms.specs.Terms.{State, nodes_of, notes_of, node_at, Each, LinksTo, itself, StandsIn, IsLink, IsVariable, IsRest, unlinked}
 use Rattle.type_terms.proofs.Solved.{links-before, links-apart, kept-set, links-kept, rows-kept, IsRest-kept}
 use Rattle.type_terms.proofs.Sound.{node_at-set_other, node_at-set_same}
 use Rattle.type_solve.specs.declared.rows.Tail.TheVariants.{Open}
 use Rattle.type_solve.specs.Bound.{IsBound}
-use Rattle.type_solve.specs.Flagged.{Narrows, OnlyNarrows}
+use Rattle.type_solve.specs.Flagged.{Narrows}
 use Rattle.type_solve.specs.Rests.{IsBare, IsNoRest, type_parts, RestsApart, IsType}
 use Rattle.type_solve.specs.Steps.{IsRow, IsTail}
-use Rattle.type_solve.proofs.Narrowing.{variable_flag, variable_bare, each_map, narrowed_apart, narrowed_no_rest, narrowed_type, narrowed_row, narrowed_end, narrowed_tail, narrowed_stands, narrowed_other}
+use Rattle.type_solve.proofs.Narrowing.{variable_bare, each_map, narrowed_apart, narrowed_no_rest, narrowed_type, narrowed_row, narrowed_end, narrowed_tail, narrowed_stands, narrowed_other}
 use Rattle.type_solve.proofs.Reading.{no_links}
 
 -- the variable at is linked to the term to
@@ -169,7 +167,7 @@ is_bound old mid now new at to flag e b n state solutions fewer =
       apart = subst RestsApart (sym is) (apart_after (nodes_of now) at to c.links c.apart);
       types = λ i t. subst (λ (nodes : List Node). IsType nodes i) (sym is)
           (let u = narrowed_type old (nodes_of now) to i n'.kept t in
-            ((let long = length-set (nodes_of now) at (Link to) in let lt = u.0 in omega (arith, long, lt)), no_rest_after (nodes_of now) at to i c.links u.1));
+          ((let long = length-set (nodes_of now) at (Link to) in let lt = u.0 in omega (arith, long, lt)), no_rest_after (nodes_of now) at to i c.links u.1));
       rests = λ v ne t. subst (λ (nodes : List Node). IsTail nodes (Open v)) (sym is) (tail_after (nodes_of now) at to v c.links ne (narrowed_tail old (nodes_of now) to v n'.kept t));
       long = ap length is ∙ length-set (nodes_of now) at (Link to) ∙ n'.kept.long;
       fewer = let m = n'.kept.as_many in omega (arith, fewer, m);

@@ -1,19 +1,19 @@
 -- What two rows without common labels ask for.
-use Rattle.std.proofs.Common.{◌≡◌, ◌≢◌, ◌⊎◌, ℕ, List, [], ◌∷◌, Option, Some, None, refl, sym, ◌∙◌, ap, subst, inl, inr}
-use Rattle.elm_typing.specs.Ground.{Ground, Row, Record, Ends}
+use Rattle.std.proofs.Common.{◌≡◌, ◌≢◌, ◌⊎◌, ℕ, List, [], ◌∷◌, Option, Some, None, refl, sym, ◌∙◌, ap, inl, inr}
+use Rattle.elm_typing.specs.Ground.{Row, Record, Ends}
 use Rattle.elm_typing.specs.Rows.{extended_all, Apart}
 use Rattle.elm_typing.proofs.RowAlgebra.{apart_solve, ends_apart}
 use Rattle.elm_typing.proofs.RowMaps.{never_itself}
 use Rattle.type_terms.specs.declared.node.Node.{Node}
-use Rattle.type_terms.specs.Solutions.{Assignment, Solves, fields_of}
+use Rattle.type_terms.specs.Solutions.{Assignment, fields_of}
 use Rattle.type_terms.specs.Terms.{terms_of, Each}
 use Rattle.type_solve.specs.declared.rows.Tail.{Tail}
 use Rattle.type_solve.specs.declared.rows.Tail.TheVariants.{Closed, Rigid, Open}
 use Rattle.type_solve.specs.declared.step.Step.{Step}
-use Rattle.type_solve.specs.declared.step.Step.TheVariants.{Done, Clash, Extends, Splits}
+use Rattle.type_solve.specs.declared.step.Step.TheVariants.{Done, Clash, Extends}
 use Rattle.type_solve.specs.Matching.{Fields, Misses, Disjoint}
 use Rattle.type_solve.specs.Rests.{IsType}
-use Rattle.type_solve.specs.Steps.{row_of, under, IsTail, CanExtend, Decides}
+use Rattle.type_solve.specs.Steps.{row_of, under, IsTail, Decides}
 use Rattle.type_solve.proofs.Match.{misses_lacks}
 use Rattle.type_solve.proofs.Reading.{rest_record}
 
@@ -32,7 +32,6 @@ disjoint_cons f fs (g ∷ gs) m h = (((λ e. m.0 (sym e)), h.0), disjoint_cons f
 pub disjoint_swap : (fs gs : Fields) → Disjoint fs gs → Disjoint gs fs
 disjoint_swap [] gs h = disjoint_none gs
 disjoint_swap (f ∷ fs) gs h = disjoint_cons f fs gs h.0 (disjoint_swap fs gs h.1)
-
 
 rigid_ends : (s : Assignment) (tail : Tail) → ((other : ℕ) → tail ≢ Open other) → (o : Option ℕ) × (under s tail ≡ Ends o)
 rigid_ends s Closed h = (None, refl)

@@ -1,14 +1,13 @@
 -- Types of terms with the same head, and with others.
-use Rattle.std.proofs.Common.{◌≡◌, ◌≢◌, ℕ, suc, ◌+◌, ◌<◌, ◌≤◌, List, [], ◌∷◌, length, Option, Some, None, refl, sym, ◌∙◌, ap, subst, arith}
-use Rattle.elm_typing.specs.Ground.{Ground, Grounds, Named, Function, Tuple, Record, Opaque, NoGrounds, AndGround}
+use Rattle.std.proofs.Common.{◌≡◌, ℕ, suc, ◌+◌, ◌≤◌, List, [], ◌∷◌, length, Some, None, refl, sym, ◌∙◌, ap, subst, arith}
+use Rattle.elm_typing.specs.Ground.{Ground, Named, Function, Tuple, Record, Opaque}
 use Rattle.type_terms.specs.declared.node.Node.{Node}
-use Rattle.type_terms.specs.declared.node.Node.TheVariants.{End, Link}
+use Rattle.type_terms.specs.declared.node.Node.TheVariants.{End}
 use Rattle.type_terms.specs.declared.shape.Shape.{Shape}
 use Rattle.type_terms.specs.declared.shape.Shape.TheVariants as shape
 use Rattle.type_terms.specs.Depth.{sum_of}
 use Rattle.type_terms.specs.Solutions.{Assignment, Solves, Fits, types_of}
-use Rattle.type_terms.specs.Terms.{node_at, parts, Each, itself, IsRest}
-use Rattle.type_solve.specs.declared.pair.Pair.{Pair}
+use Rattle.type_terms.specs.Terms.{node_at, parts, Each, itself}
 use Rattle.type_solve.specs.Heads.{SameHead, IsVariableShape, IsRowShape, zipped}
 use Rattle.type_solve.specs.Matching.{AllEqual, terms_in}
 use Rattle.type_solve.specs.Rests.{IsBare, IsNoRest, type_parts}

@@ -1,5 +1,5 @@
 -- A term is heavier than the types that stand in it.
-use Rattle.std.proofs.Common.{◌≡◌, ◌≢◌, ◌⊎◌, ℕ, suc, ◌+◌, ◌<◌, ◌≤◌, List, [], ◌∷◌, Bool, true, false, Option, Some, None, refl, sym, ◌∙◌, ap, subst, arith, inl, inr}
+use Rattle.std.proofs.Common.{◌≡◌, ◌≢◌, ◌⊎◌, ℕ, suc, ◌+◌, ◌<◌, ◌≤◌, List, [], ◌∷◌, Option, Some, None, refl, sym, ◌∙◌, ap, subst, arith, inl, inr}
 use Rattle.elm_typing.specs.Ground.{Ground, Grounds, Row, Named, Function, Tuple, Record, Opaque, NoGrounds, AndGround, Ends, Field}
 use Rattle.elm_typing.specs.Labels.{is_after}
 use Rattle.elm_typing.specs.Rows.{extended, extended_all}
@@ -7,14 +7,13 @@ use Rattle.elm_typing.proofs.LabelOrder.{decided}
 use Rattle.elm_typing.proofs.RowAlgebra.{front, past}
 use Rattle.type_terms.specs.declared.node.Node.{Node}
 use Rattle.type_terms.specs.declared.node.Node.TheVariants.{End, Link}
-use Rattle.type_terms.specs.declared.shape.Shape.{Shape}
 use Rattle.type_terms.specs.declared.shape.Shape.TheVariants as shape
 use Rattle.type_terms.specs.Solutions.{Assignment, Solves, FitsNode, types_of, fields_of}
-use Rattle.type_terms.specs.Terms.{node_at, parts, below, terms_of, Each, Among, LinksTo, itself, further, StandsIn, here, within, IsLink, IsVariable, IsRest}
+use Rattle.type_terms.specs.Terms.{node_at, below, terms_of, Among, LinksTo, itself, further, StandsIn, here, within, IsLink, IsVariable, IsRest}
 use Rattle.type_solve.specs.Matching.{Fields}
-use Rattle.type_solve.specs.Rests.{IsBare, IsNoRest, type_parts}
+use Rattle.type_solve.specs.Rests.{IsNoRest, type_parts}
 use Rattle.type_solve.proofs.Narrowing.{variable_bare}
-use Rattle.type_solve.proofs.Reading.{links_same, no_links}
+use Rattle.type_solve.proofs.Reading.{no_links}
 
 abbrev mutual
   pub heft : Ground → ℕ

@@ -7,6 +7,7 @@ mod Reading
 mod Adding
 mod Asking
 mod Binding
+mod Building
 mod Deciding
 mod Standing
 mod Visiting

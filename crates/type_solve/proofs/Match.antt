@@ -1,6 +1,6 @@
 -- One field at a time, the shared ones are paired and the others put by.
 use Rattle.std.proofs.Common.{◌≡◌, ◌≢◌, ◌↔◌, ℕ, zero, suc, ◌+◌, ◌<◌, ◌≤◌, List, [], ◌∷◌, ◌++◌, length, get_or, take, drop, refl, sym, ◌∙◌, ap, subst, arith, add-one, drop-cons, append_assoc}
-use Rattle.elm_typing.specs.Ground.{Ground, Row}
+use Rattle.elm_typing.specs.Ground.{Row}
 use Rattle.elm_typing.specs.Rows.{extended, extended_all, Lacks}
 use Rattle.elm_typing.proofs.RowAlgebra.{extended_all-append, both_have}
 use Rattle.type_solve.specs.declared.pair.Pair.{Pair}

@@ -1,14 +1,13 @@
 -- What stays where flags of variables are narrowed.
-use Rattle.std.proofs.Common.{◌≡◌, ◌≢◌, ◌⊎◌, ◌↔◌, ℕ, zero, suc, ◌+◌, ◌<◌, ◌≤◌, List, [], ◌∷◌, ◌++◌, length, set, Option, Some, None, refl, sym, ◌∙◌, ap, subst, arith, inl, inr, length-set, append_assoc, Result, Ok, Err, OnOk}
+use Rattle.std.proofs.Common.{◌≡◌, ◌⊎◌, ◌↔◌, ℕ, zero, suc, ◌<◌, List, [], ◌∷◌, ◌++◌, length, set, Option, Some, refl, sym, ◌∙◌, ap, subst, arith, inl, inr, length-set, append_assoc, Result, Ok, Err, OnOk}
 use native.Mathlib.Decide.{ℕ_discrete}
 use Rattle.elm_typing.specs.declared.flag.Flag.{Flag}
 use Rattle.elm_typing.specs.Flags.{HasFlag, joined}
 use Rattle.type_terms.specs.declared.node.Node.{Node}
 use Rattle.type_terms.specs.declared.node.Node.TheVariants.{End, Link}
-use Rattle.type_terms.specs.declared.shape.Shape.{Shape}
 use Rattle.type_terms.specs.declared.shape.Shape.TheVariants as shape
 use Rattle.type_terms.specs.Solutions.{Assignment, MayBeRest, Solves}
-use Rattle.type_terms.specs.Terms.{State, nodes_of, notes_of, node_at, parts, below, terms_of, Each, Among, LinksTo, itself, further, StandsIn, here, within, IsLink, IsVariable, IsRest, unlinked}
+use Rattle.type_terms.specs.Terms.{State, nodes_of, notes_of, node_at, below, Each, Among, LinksTo, itself, StandsIn, here, within, IsLink, IsVariable, IsRest, unlinked}
 use Rattle.type_terms.proofs.Solved.{LinksTo-kept, IsRest-kept}
 use Rattle.type_terms.proofs.Sound.{node_at-set_other, node_at-set_same}
 use Rattle.type_solve.specs.declared.flags.Demand.{Demand}
@@ -66,11 +65,11 @@ narrows_more old now at v f k var type stands = record {
   nodes = λ i.
       elim (ℕ_discrete i v) as (λ _. (node_at (set now v (End (shape.Variable f))) i ≡ node_at old i) ⊎ (IsVariable (node_at old i) × IsVariable (node_at (set now v (End (shape.Variable f))) i) × IsType old i × StandsIn old i at)) [
         | yes e ↦ inr (
-            subst (λ (j : ℕ). IsVariable (node_at old j)) (sym e) var,
-            subst (λ (j : ℕ). IsVariable (node_at (set now v (End (shape.Variable f))) j)) (sym e) (subst IsVariable (sym (node_at-set_same now v (End (shape.Variable f)) lt)) tt),
-            subst (IsType old) (sym e) type,
-            subst (λ (j : ℕ). StandsIn old j at) (sym e) stands,
-          )
+          subst (λ (j : ℕ). IsVariable (node_at old j)) (sym e) var,
+          subst (λ (j : ℕ). IsVariable (node_at (set now v (End (shape.Variable f))) j)) (sym e) (subst IsVariable (sym (node_at-set_same now v (End (shape.Variable f)) lt)) tt),
+          subst (IsType old) (sym e) type,
+          subst (λ (j : ℕ). StandsIn old j at) (sym e) stands,
+        )
         | no ne ↦ subst (λ (n : Node). (n ≡ node_at old i) ⊎ (IsVariable (node_at old i) × IsVariable n × IsType old i × StandsIn old i at)) (sym (node_at-set_other now v i (End (shape.Variable f)) ne)) (k.nodes i)
       ];
   as_many = unlinked_set now v f lt (variable_kept old now at v k var) ∙ k.as_many;

@@ -1,22 +1,20 @@
 -- What the nodes of a store say of its solutions.
-use Rattle.std.proofs.Common.{◌≡◌, ◌≢◌, ◌⊎◌, ℕ, zero, suc, ◌+◌, ◌<◌, ◌≤◌, List, [], ◌∷◌, ◌++◌, length, get_or, Option, Some, None, refl, sym, ◌∙◌, ap, subst, arith, inl, inr}
+use Rattle.std.proofs.Common.{◌≡◌, ◌⊎◌, ℕ, ◌+◌, ◌<◌, ◌≤◌, List, [], ◌∷◌, ◌++◌, length, Option, Some, None, refl, sym, ◌∙◌, ap, subst, arith, inl, inr}
 use Rattle.elm_typing.specs.declared.flag.Flag.{Flag}
 use Rattle.elm_typing.specs.declared.flag.Flag.TheVariants.{Plain, Comparable, Appendable, Both}
-use Rattle.elm_typing.specs.Ground.{Ground, Row, Record, Ends}
+use Rattle.elm_typing.specs.Ground.{Row, Record, Ends}
 use Rattle.elm_typing.specs.Rows.{extended_all}
-use Rattle.elm_typing.proofs.RowAlgebra.{extended_all-append}
 use Rattle.type_terms.specs.declared.node.Node.{Node}
 use Rattle.type_terms.specs.declared.node.Node.TheVariants.{End, Link}
 use Rattle.type_terms.specs.declared.shape.Shape.{Shape}
 use Rattle.type_terms.specs.declared.shape.Shape.TheVariants as shape
 use Rattle.type_terms.specs.Depth.{IsBelow, sum_of, weight}
 use Rattle.type_terms.specs.Solutions.{Assignment, MayBeRest, Solves, Fits, FitsNode, fields_of}
-use Rattle.type_terms.specs.Terms.{State, nodes_of, node_at, terms_of, parts, Each, Among, LinksTo, itself, further, IsLink, IsVariable, IsRest}
+use Rattle.type_terms.specs.Terms.{State, nodes_of, node_at, terms_of, parts, Each, Among, LinksTo, itself, further, IsLink, IsRest}
 use Rattle.type_solve.specs.declared.rows.Tail.{Tail}
-use Rattle.type_solve.specs.declared.rows.Tail.TheVariants.{Closed, Rigid, Open}
-use Rattle.type_solve.specs.declared.rows.Flat.{Flat}
+use Rattle.type_solve.specs.declared.rows.Tail.TheVariants.{Closed}
 use Rattle.type_solve.specs.Matching.{Fields}
-use Rattle.type_solve.specs.Rests.{IsBare, IsNoRest, type_parts, RestsApart, IsType}
+use Rattle.type_solve.specs.Rests.{IsNoRest, type_parts, RestsApart, IsType}
 use Rattle.type_solve.specs.Steps.{IsRow, row_of, under, IsShapeAt, IsTail, Flattens}
 use Rattle.type_solve.proofs.Match.{each_append}
 
@@ -102,15 +100,15 @@ reads_more store at end fields fields' more sh rest next to apart r shaped row h
     more_row : IsShapeAt store end (shape.Row more (Some next)) → ReadsRow store at fields' to
     more_row is = record {
       same = λ s q h x.
-      let f = fits_at (nodes_of store) s end (shape.Row more (Some next)) is.here h in
-      let same_row : f.0 ≡ q = record_row f.0 q (sym f.1 ∙ links_same (nodes_of store) s to next h leads ∙ x) in
-      r.same s (extended_all (fields_of s more) q) h (f.2 ∙ ap (λ row. Record (extended_all (fields_of s more) row)) same_row)
-      ∙ ap Record (sym (fields_of-append s fields more q)) ∙ ap (λ fs. Record (extended_all (fields_of s fs) q)) (sym e);
+          let f = fits_at (nodes_of store) s end (shape.Row more (Some next)) is.here h in
+          let same_row : f.0 ≡ q = record_row f.0 q (sym f.1 ∙ links_same (nodes_of store) s to next h leads ∙ x) in
+          r.same s (extended_all (fields_of s more) q) h (f.2 ∙ ap (λ row. Record (extended_all (fields_of s more) row)) same_row)
+          ∙ ap Record (sym (fields_of-append s fields more q)) ∙ ap (λ fs. Record (extended_all (fields_of s fs) q)) (sym e);
       inside = lt;
       stops = stops;
       row_or_rest = inr (record { row = end; fields = more; rest = next; stands = is.here; leads = leads });
       types = subst (λ (fs : Fields). Each (IsType (nodes_of store)) (terms_of fs)) (sym e)
-      (each_append (IsType (nodes_of store)) fields more r.types (field_types (nodes_of store) end more (Some next) apart is.here is.inside));
+          (each_append (IsType (nodes_of store)) fields more r.types (field_types (nodes_of store) end more (Some next) apart is.here is.inside));
       light = let a = sum_of-append (weight store) fields more in let b = ap (λ fs. sum_of (weight store) (terms_of fs)) e in let c = r.light in let d = is.light in omega (arith, a, b, c, d);
     }
 

@@ -1,10 +1,10 @@
 -- Where a variable stands.
-use Rattle.std.proofs.Common.{◌≡◌, ◌≢◌, ◌⊎◌, ℕ, zero, suc, ◌+◌, ◌<◌, ◌≤◌, List, [], ◌∷◌, ◌++◌, length, refl, sym, ◌∙◌, ap, subst, arith, inl, inr}
+use Rattle.std.proofs.Common.{◌≡◌, ◌≢◌, ◌⊎◌, ℕ, ◌+◌, ◌<◌, ◌≤◌, List, [], ◌∷◌, ◌++◌, length, refl, sym, ap, subst, arith, inl, inr}
 use Rattle.type_terms.specs.declared.node.Node.{Node}
 use Rattle.type_terms.specs.declared.node.Node.TheVariants.{End, Link}
 use Rattle.type_terms.specs.declared.shape.Shape.{Shape}
 use Rattle.type_terms.specs.Depth.{IsBelow, sum_of, weight}
-use Rattle.type_terms.specs.Terms.{State, nodes_of, node_at, parts, below, Each, Among, LinksTo, itself, further, StandsIn, here, within, IsLink, IsVariable}
+use Rattle.type_terms.specs.Terms.{State, nodes_of, node_at, parts, below, Each, Among, LinksTo, itself, further, StandsIn, here, within, IsVariable}
 use Rattle.type_solve.specs.Steps.{IsShapeAt}
 
 -- the variable stands in some term of the list
@@ -39,9 +39,9 @@ among_right nodes v (x ∷ xs) ys h = inr (among_right nodes v xs ys h)
 among_split : (nodes : List Node) (v : ℕ) (xs : List ℕ) (x : ℕ) → StandsAmong nodes v (xs ++ x ∷ []) → StandsAmong nodes v xs ⊎ StandsIn nodes v x
 among_split nodes v [] x h = elim h as (λ _. StandsAmong nodes v [] ⊎ StandsIn nodes v x) [ inl s ↦ inr s | inr n ↦ absurd n ]
 among_split nodes v (y ∷ xs) x h = elim h as (λ _. StandsAmong nodes v (y ∷ xs) ⊎ StandsIn nodes v x) [
-    | inl s ↦ inl (inl s)
-    | inr r ↦ elim (among_split nodes v xs x r) as (λ _. StandsAmong nodes v (y ∷ xs) ⊎ StandsIn nodes v x) [ inl q ↦ inl (inr q) | inr s ↦ inr s ]
-  ]
+  | inl s ↦ inl (inl s)
+  | inr r ↦ elim (among_split nodes v xs x r) as (λ _. StandsAmong nodes v (y ∷ xs) ⊎ StandsIn nodes v x) [ inl q ↦ inl (inr q) | inr s ↦ inr s ]
+]
 
 among_member : (nodes : List Node) (v k : ℕ) (xs : List ℕ) → Among k xs → StandsIn nodes v k → StandsAmong nodes v xs
 among_member nodes v k [] m s = absurd m

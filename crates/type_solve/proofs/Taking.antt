@@ -1,17 +1,16 @@
 -- What a new row and a binding leave of the solutions.
-use Rattle.std.proofs.Common.{◌≡◌, ◌≢◌, ◌⊎◌, ◌↔◌, ℕ, suc, ◌+◌, ◌<◌, ◌≤◌, List, [], ◌∷◌, ◌++◌, length, Option, Some, None, refl, sym, ◌∙◌, ap, subst, arith, inl, inr, length-append}
-use Rattle.elm_typing.specs.declared.flag.Flag.{Flag}
+use Rattle.std.proofs.Common.{◌≡◌, ◌≢◌, ◌↔◌, ℕ, suc, ◌<◌, List, [], ◌∷◌, ◌++◌, length, Option, Some, None, refl, sym, ◌∙◌, ap, subst, arith, inl, inr, length-append}
 use Rattle.elm_typing.specs.declared.flag.Flag.TheVariants.{Plain}
 use Rattle.elm_typing.specs.Flags.{HasFlag}
 use Rattle.elm_typing.specs.Ground.{Ground, Row, Record, Ends}
 use Rattle.elm_typing.specs.Ordered.{InOrder, RowInOrder}
 use Rattle.elm_typing.specs.Rows.{extended_all}
 use Rattle.type_terms.specs.declared.node.Node.{Node}
-use Rattle.type_terms.specs.declared.node.Node.TheVariants.{End, Link}
+use Rattle.type_terms.specs.declared.node.Node.TheVariants.{End}
 use Rattle.type_terms.specs.declared.shape.Shape.{Shape}
 use Rattle.type_terms.specs.declared.shape.Shape.TheVariants as shape
 use Rattle.type_terms.specs.Depth.{IsBelow, IsSound}
-use Rattle.type_terms.specs.Solutions.{Assignment, Solves, Fits, AddsNoRest, IsNoNewRest, fields_of, with_type}
+use Rattle.type_terms.specs.Solutions.{Assignment, Solves, Fits, AddsNoRest, fields_of, with_type}
 use Rattle.type_terms.specs.Terms.{State, nodes_of, notes_of, node_at, parts, below, terms_of, Each, Among, LinksTo, itself, StandsIn, here, within, IsLink, IsVariable, IsRest, unlinked}
 use Rattle.type_terms.proofs.Composed.{with-cases}
 use Rattle.type_terms.proofs.Sound.{node_at-old, node_at-new}
@@ -21,8 +20,8 @@ use Rattle.type_solve.specs.declared.step.Step.{Step}
 use Rattle.type_solve.specs.declared.step.Step.TheVariants.{Binds, Extends, Splits}
 use Rattle.type_solve.specs.Bound.{IsBound}
 use Rattle.type_solve.specs.Matching.{Fields}
-use Rattle.type_solve.specs.Rests.{IsBare, IsNoRest, type_parts, RestsApart, IsType}
-use Rattle.type_solve.specs.Steps.{row_of, under, IsRow, IsTail, Holds, CanBind, CanExtend, CanSplit, CanTake}
+use Rattle.type_solve.specs.Rests.{IsNoRest, RestsApart, IsType}
+use Rattle.type_solve.specs.Steps.{row_of, under, IsRow, IsTail, CanBind, CanExtend, CanSplit, CanTake}
 use Rattle.type_solve.specs.Taken.{Agree, rest_term, Takes, OpensRest}
 use Rattle.type_solve.proofs.Adding.{DoesNoHarm, variable_harmless, fresh_row_harmless, unlinked_variable, apart_pushed, no_rest_pushed, row_harmless, row_type, tail_pushed, type_pushed, unlinked_row}
 use Rattle.elm_typing.proofs.RowAlgebra.{apart_solve, apart_swap}
@@ -60,7 +59,7 @@ adds_no_rest nodes fields Closed is = tt
 adds_no_rest nodes fields (Rigid at number) is = λ end m flag leads e. subst (IsRest nodes) (sym (no_links nodes end at (λ l. subst IsLink is.2 l) leads)) is.1
 adds_no_rest nodes fields (Open at) is = λ end m flag leads e. subst (IsRest nodes) (sym (no_links nodes end at (λ l. subst IsLink is.2 l) leads)) is.1
 
-firsts : (nodes : List Node) (ks : List ℕ) → Each (IsType nodes) ks → Each (IsBelow (length nodes)) ks
+pub firsts : (nodes : List Node) (ks : List ℕ) → Each (IsType nodes) ks → Each (IsBelow (length nodes)) ks
 firsts nodes [] h = tt
 firsts nodes (k ∷ ks) h = (h.0.0, firsts nodes ks h.1)
 
@@ -152,7 +151,7 @@ rowed_heavier old mid at row fields tail r s h =
     row_heavier mid s at row fields (rest_term tail) h (row_node old mid at row fields tail r)
     (λ e. let p = r.place in let lt = r.can.source.0 in omega (arith, e, p, lt))
     (λ y. tail_away old mid at tail y r.can.ends r.can.other (at_node old mid at row fields tail r)
-        (λ j lt. ap (λ nodes. node_at nodes j) r.added ∙ node_at-old old (End (shape.Row fields (rest_term tail))) j lt))
+    (λ j lt. ap (λ nodes. node_at nodes j) r.added ∙ node_at-old old (End (shape.Row fields (rest_term tail))) j lt))
 
 -- a solution in which the step holds, with the new row's type
 rowed_with : (old mid : List Node) (at row : ℕ) (fields : Fields) (tail : Tail) → Rowed old mid at row fields tail → (s : Assignment) → Solves old s →
@@ -229,11 +228,11 @@ opened old one new bound more x end variable q row fields sound sound_one apart 
     let apart_one = subst RestsApart (sym is_one) (apart_pushed (nodes_of old) bound (length (nodes_of old)) (shape.Variable Plain) sound harmless_one apart) in
     let harmless : DoesNoHarm (nodes_of one) (length (nodes_of old)) (shape.Row fields (Some q))
     = subst (λ (nodes : List Node). DoesNoHarm nodes (length (nodes_of old)) (shape.Row fields (Some q))) (sym is_one)
-        (subst (λ (j : ℕ). DoesNoHarm (nodes_of old ++ var ∷ []) (length (nodes_of old)) (shape.Row fields (Some j))) (sym q_is)
-        (fresh_row_harmless (nodes_of old) bound fields sound types)) in
+    (subst (λ (j : ℕ). DoesNoHarm (nodes_of old ++ var ∷ []) (length (nodes_of old)) (shape.Row fields (Some j))) (sym q_is)
+    (fresh_row_harmless (nodes_of old) bound fields sound types)) in
     let adds : AddsNoRest (nodes_of one) (shape.Row fields (Some q))
     = subst (λ (nodes : List Node). AddsNoRest nodes (shape.Row fields (Some q))) (sym is_one)
-        (subst (λ (j : ℕ). AddsNoRest (nodes_of old ++ var ∷ []) (shape.Row fields (Some j))) (sym q_is) (fresh_adds_none (nodes_of old) fields)) in
+    (subst (λ (j : ℕ). AddsNoRest (nodes_of old ++ var ∷ []) (shape.Row fields (Some j))) (sym q_is) (fresh_adds_none (nodes_of old) fields)) in
     let is_new_nodes : nodes_of new ≡ nodes_of one ++ End (shape.Row fields (Some q)) ∷ [] = ap nodes_of state2 in
     let long : length (nodes_of one) ≡ suc (length (nodes_of old)) = ap length is_one ∙ length-append (nodes_of old) (var ∷ []) ∙ omega arith in record {
       source = subst (λ (j : ℕ). IsTail (nodes_of old) (Open j)) (sym same) source;
@@ -303,7 +302,7 @@ opened_heavier old mid x q row fields r s h =
     row_heavier mid s x row fields (Some q) h (opened_row old mid x q row fields r)
     (λ e. omega (arith, e, p, lt))
     (λ y e stands. let z : q ≡ y = cc e in
-        let w = stands_alone mid x y (shape.Variable Plain) (ap (node_at mid) (sym z) ∙ opened_new old mid x q row fields r) refl stands in omega (arith, w, z, v, lt))
+    let w = stands_alone mid x y (shape.Variable Plain) (ap (node_at mid) (sym z) ∙ opened_new old mid x q row fields r) refl stands in omega (arith, w, z, v, lt))
 
 -- a solution in which the rest is the fields over some row, with the types of the new variable and the new row
 opened_with : (old mid : List Node) (x q row : ℕ) (fields : Fields) → Opened old mid x q row fields → Each (IsType old) (terms_of fields) → (s : Assignment) (under_all : Row) → Solves old s → RowInOrder under_all →
@@ -312,8 +311,7 @@ opened_with old mid x q row fields r types s under_all h o e =
     let one = with_type s q (Record under_all) in
     let u = s x in
     let v = r.variable in let p = r.place in let lt = r.source.0 in
-    let same_fields : fields_of one fields ≡ fields_of s fields = kept fields types in
-    (
+    let same_fields : fields_of one fields ≡ fields_of s fields = kept fields types in (
       with_type one row u,
       (λ i lt. sym (with_other one row i u (λ x. omega (arith, x, p, lt)) ∙ with_other s q i (Record under_all) (λ x. omega (arith, x, v, lt)))),
       r.extends s (Record under_all) u h o (under_all, with_here s q (Record under_all), e ∙ ap (λ fs. Record (extended_all fs under_all)) (sym same_fields)) (h.in_order x),
@@ -428,16 +426,18 @@ pub splits_taken : (old mid new : List Node) (left right : Fields) (x y q : ℕ)
 splits_taken old mid new left right x y q c o t = record {
   sound = λ s h.
       let m = t.sound s h in
-      let w = o.sound s m.0 in
-      (w.0, ap (λ z. extended_all (fields_of s left) (row_of z)) w.1
-          ∙ apart_swap (fields_of s left) (fields_of s right) (row_of (s q)) (fields_apart s left right c.apart)
-          ∙ sym (ap (λ z. extended_all (fields_of s right) (row_of z)) m.1));
+      let w = o.sound s m.0 in (
+        w.0,
+        ap (λ z. extended_all (fields_of s left) (row_of z)) w.1
+            ∙ apart_swap (fields_of s left) (fields_of s right) (row_of (s q)) (fields_apart s left right c.apart)
+            ∙ sym (ap (λ z. extended_all (fields_of s right) (row_of z)) m.1),
+      );
   complete = λ s h e.
       let m = meets old s left right x y c h e in
       let r = o.complete s m.row h m.order m.first in
       let at_y : r.0 y ≡ Record (extended_all (fields_of r.0 left) (row_of (r.0 q)))
       = sym (r.1 y c.second.0) ∙ m.second ∙ ap (λ fs. Record (extended_all fs m.row)) (agree_fields (length old) s r.0 old left refl r.1 c.left_types)
-          ∙ ap (λ z. Record (extended_all (fields_of r.0 left) (row_of z))) (sym r.3) in
+      ∙ ap (λ z. Record (extended_all (fields_of r.0 left) (row_of z))) (sym r.3) in
       let w = t.complete r.0 r.2 at_y in
       (w.0, (λ i lt. r.1 i lt ∙ w.1 i (let l = o.longer in omega (arith, l, lt))), w.2);
   apart = t.apart;
@@ -459,7 +459,7 @@ splits_refused_second old mid left right x y q c o never s h e =
     let m = meets old s left right x y c h e in
     let r = o.complete s m.row h m.order m.first in
     never r.0 r.2 (sym (r.1 y c.second.0) ∙ m.second ∙ ap (λ fs. Record (extended_all fs m.row)) (agree_fields (length old) s r.0 old left refl r.1 c.left_types)
-        ∙ ap (λ z. Record (extended_all (fields_of r.0 left) (row_of z))) (sym r.3))
+    ∙ ap (λ z. Record (extended_all (fields_of r.0 left) (row_of z))) (sym r.3))
 
 -- a variable bound --
 

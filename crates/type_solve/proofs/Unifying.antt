@@ -1,9 +1,9 @@
 -- Pairs that wait, over a store that grows.
-use Rattle.std.proofs.Common.{◌≡◌, ◌≢◌, ℕ, suc, ◌+◌, ◌-◌, ◌<◌, ◌≤◌, List, [], ◌∷◌, ◌++◌, length, drop, refl, sym, ◌∙◌, ap, subst, arith, length-append}
+use Rattle.std.proofs.Common.{◌≡◌, ℕ, ◌-◌, ◌≤◌, List, [], ◌∷◌, ◌++◌, length, drop, refl, sym, ◌∙◌, ap, subst, arith, length-append}
 use Rattle.type_terms.specs.declared.node.Node.{Node}
 use Rattle.type_terms.specs.Depth.{IsSound}
 use Rattle.type_terms.specs.Solutions.{Assignment, Solves}
-use Rattle.type_terms.specs.Terms.{State, nodes_of, Each, unlinked}
+use Rattle.type_terms.specs.Terms.{State, nodes_of, Each}
 use Rattle.type_terms.proofs.Existence.{solution-exists}
 use Rattle.type_solve.specs.declared.pair.Pair.{Pair}
 use Rattle.type_solve.specs.declared.step.Step.{Step}
@@ -58,8 +58,7 @@ solving_more old now new a b waiting after step v d grown t = record {
   complete = λ s h e.
       let r = v.complete s h e in
       let p = d.to r.0 r.2 r.3 in
-      let q = t.complete r.0 r.2 p.0 in
-      (
+      let q = t.complete r.0 r.2 p.0 in (
         q.0,
         (λ i lt. r.1 i lt ∙ q.1 i (let l = v.longer in omega (arith, l, lt))),
         q.2,

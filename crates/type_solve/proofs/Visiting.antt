@@ -1,12 +1,12 @@
 -- What a comparison of two terms tells.
-use Rattle.std.proofs.Common.{◌≡◌, ◌≢◌, ℕ, zero, suc, ◌+◌, ◌<◌, ◌≤◌, List, [], ◌∷◌, ◌++◌, length, refl, sym, ◌∙◌, ap, subst, arith}
+use Rattle.std.proofs.Common.{◌≡◌, ℕ, zero, suc, ◌+◌, ◌<◌, ◌≤◌, List, [], ◌∷◌, ◌++◌, length, refl, sym, ◌∙◌, ap, subst, arith}
 use Rattle.elm_typing.specs.Ground.{Ground, Row, Record}
 use Rattle.type_terms.specs.declared.node.Node.{Node}
-use Rattle.type_terms.specs.declared.node.Node.TheVariants.{End, Link}
+use Rattle.type_terms.specs.declared.node.Node.TheVariants.{End}
 use Rattle.type_terms.specs.declared.shape.Shape.{Shape}
 use Rattle.type_terms.specs.declared.shape.Shape.TheVariants as shape
 use Rattle.type_terms.specs.Depth.{IsBelow, sum_of, doubled, size, weight}
-use Rattle.type_terms.specs.Solutions.{Assignment, Solves, Fits, fields_of}
+use Rattle.type_terms.specs.Solutions.{Assignment, Solves, Fits}
 use Rattle.type_terms.specs.Terms.{State, nodes_of, node_at, parts, Each, LinksTo, itself, further, IsLink, IsVariable}
 use Rattle.type_solve.specs.declared.pair.Pair.{Pair}
 use Rattle.type_solve.specs.declared.rows.Flat.{Flat}
@@ -15,7 +15,7 @@ use Rattle.type_solve.specs.declared.step.Step.TheVariants.{Done, Clash, Binds}
 use Rattle.type_solve.specs.Heads.{SameHead, IsVariableShape, IsRowShape, zipped}
 use Rattle.type_solve.specs.Matching.{Fields, AllEqual, terms_in, Matches}
 use Rattle.type_solve.specs.Rests.{IsNoRest, RestsApart, IsType, type_parts}
-use Rattle.type_solve.specs.Steps.{under, IsShapeAt, Flattens, Holds, CanBind, CanTake, Decides, Visits, Descends}
+use Rattle.type_solve.specs.Steps.{under, IsShapeAt, Flattens, Holds, CanTake, Decides, Visits, Descends}
 use Rattle.type_solve.proofs.Heads.{fits_type, heads_to, heads_back, heads_apart, head_parts, same_head_turned, zipped_light, zipped_each}
 use Rattle.type_solve.proofs.Reading.{each_both, links_same}
 
@@ -73,7 +73,7 @@ pub visits_clash : (store : List State) (a b : ℕ) (waiting : List Pair) (p q :
 visits_clash store a b waiting p q ip iq ta tb vp vq rows ne =
     plain store a b waiting Clash (append_none waiting)
     (λ s h e. heads_apart s (s a) p q ne vp vq rows (fits_type (nodes_of store) s a p ta.1 ip.here h)
-        (subst (λ (t : Ground). Fits ⊥ s t q) (sym e) (fits_type (nodes_of store) s b q tb.1 iq.here h)))
+    (subst (λ (t : Ground). Fits ⊥ s t q) (sym e) (fits_type (nodes_of store) s b q tb.1 iq.here h)))
     (λ s h t. absurd t) tt
 
 inside_types : (store : List State) (a : ℕ) (p q : Shape) → RestsApart (nodes_of store) → IsShapeAt store a p → SameHead p q → Each (IsType (nodes_of store)) (parts p)
@@ -86,8 +86,11 @@ pub visits_parts : (store : List State) (a b : ℕ) (waiting now : List Pair) (p
 visits_parts store a b waiting now p q ip iq ta tb apart same behind = record {
   pairs = zipped (parts p) (parts q);
   behind = behind;
-  to = λ s h e. (tt, heads_to s (s a) p q same (fits_type (nodes_of store) s a p ta.1 ip.here h)
-      (subst (λ (t : Ground). Fits ⊥ s t q) (sym e) (fits_type (nodes_of store) s b q tb.1 iq.here h)));
+  to = λ s h e. (
+    tt,
+    heads_to s (s a) p q same (fits_type (nodes_of store) s a p ta.1 ip.here h)
+        (subst (λ (t : Ground). Fits ⊥ s t q) (sym e) (fits_type (nodes_of store) s b q tb.1 iq.here h)),
+  );
   back = λ s h t e. heads_back s (s a) (s b) p q same (fits_type (nodes_of store) s a p ta.1 ip.here h) (fits_type (nodes_of store) s b q tb.1 iq.here h) e;
   light = let i = zipped_light (weight store) (parts p) (parts q) in let x = ip.light in let y = iq.light in omega (arith, i, x, y);
   types = zipped_each (IsType (nodes_of store)) (parts p) (parts q) (inside_types store a p q apart ip same)

@@ -7,7 +7,7 @@ use Rattle.type_terms.specs.declared.node.Node.{Node}
 use Rattle.type_terms.specs.declared.shape.Shape.{Shape}
 use Rattle.type_terms.specs.declared.shape.Shape.TheVariants as shape
 use Rattle.type_terms.specs.Solutions.{Assignment, Solves}
-use Rattle.type_terms.specs.Terms.{node_at, IsVariable, IsRest, StandsIn, unlinked}
+use Rattle.type_terms.specs.Terms.{node_at, IsVariable, StandsIn, unlinked}
 use Rattle.type_solve.specs.declared.flags.Demand.{Demand}
 use Rattle.type_solve.specs.Rests.{IsType}
 

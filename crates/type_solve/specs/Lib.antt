@@ -2,6 +2,7 @@ pub mod Bound
 pub mod Flagged
 pub mod Grown
 pub mod Heads
+pub mod Kept
 pub mod Matching
 pub mod Rests
 pub mod Steps

@@ -1,5 +1,5 @@
 -- The fields that two rows share, and those that one of them has alone.
-use Rattle.std.specs.Prelude.{◌≡◌, ◌≢◌, ℕ, ◌+◌, ◌≤◌, List, [], ◌∷◌, ◌++◌, length, Option, Some, None}
+use Rattle.std.specs.Prelude.{◌≡◌, ◌≢◌, ℕ, ◌+◌, List, [], ◌∷◌, ◌++◌, length, Option, Some, None}
 use Rattle.elm_typing.specs.Ground.{Row}
 use Rattle.elm_typing.specs.Rows.{extended_all}
 use Rattle.type_solve.specs.declared.pair.Pair.{Pair}

@@ -1,9 +1,7 @@
 -- Rests of rows stand apart from other types.
-use Rattle.std.specs.Prelude.{◌≡◌, ℕ, ◌<◌, List, [], ◌∷◌, length, Option, Some, None}
-use Rattle.elm_typing.specs.declared.flag.Flag.TheVariants.{Plain}
+use Rattle.std.specs.Prelude.{ℕ, ◌<◌, List, [], ◌∷◌, length}
 use Rattle.type_terms.specs.declared.node.Node.{Node}
-use Rattle.type_terms.specs.declared.node.Node.TheVariants.{End, Link}
-use Rattle.type_terms.specs.declared.shape.Shape.{Shape}
+use Rattle.type_terms.specs.declared.node.Node.TheVariants.{End}
 use Rattle.type_terms.specs.declared.shape.Shape.TheVariants as shape
 use Rattle.type_terms.specs.Solutions.{MayBeRest}
 use Rattle.type_terms.specs.Terms.{node_at, terms_of, Each, LinksTo, IsRest}

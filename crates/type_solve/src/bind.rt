@@ -2,7 +2,7 @@
 
 ghost use Rattle.std.specs.Prelude.{◌≡◌, ◌≢◌, ◌⊎◌, ◌<◌, Err, OnOk, length};
 ghost use Rattle.elm_base.specs.declared.memory.Halt.TheVariants.{Because};
-ghost use Rattle.type_solve.specs.declared.no_solution.NoSolution.{NoSolution};
+ghost use Rattle.type_sorts.specs.declared.no_solution.NoSolution.{NoSolution};
 ghost use Rattle.type_solve.specs.Bound.{IsBound};
 ghost use Rattle.type_solve.specs.Grown.{IsGrown};
 ghost use Rattle.type_solve.specs.Rests.{RestsApart, IsNoRest, IsType};
@@ -13,11 +13,11 @@ ghost use Rattle.type_terms.specs.Solutions.{Assignment, Solves};
 ghost use Rattle.type_terms.specs.Terms.{nodes_of, node_at, IsVariable, IsLink, StandsIn};
 
 use crate::flags::narrow_all;
-use crate::no_solution::NoSolution;
 use crate::occurs::stands_in;
 use crate::read::shape_at;
 use elm_base::Halt;
 use std::alloc::Global;
+use type_sorts::NoSolution;
 use type_terms::{Flag, Shape, Store, TermId};
 
 /// The flag of an unlinked variable.

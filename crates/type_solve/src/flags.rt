@@ -6,17 +6,17 @@ ghost use Rattle.elm_typing.specs.declared.flag.Flag.TheVariants.{Comparable, Ap
 ghost use Rattle.elm_typing.specs.Flags.{IsComparable, IsAppendable, HasFlag};
 ghost use Rattle.type_solve.specs.Flagged.{AllowsOrder, AllowsJoining, IsBase, Demands, Narrows};
 ghost use Rattle.type_solve.specs.Grown.{IsGrown};
-ghost use Rattle.type_solve.specs.declared.no_solution.NoSolution.{NoSolution};
+ghost use Rattle.type_sorts.specs.declared.no_solution.NoSolution.{NoSolution};
 ghost use Rattle.type_solve.specs.Rests.{RestsApart, IsType};
 ghost use Rattle.type_terms.specs.Solutions.{Assignment, Solves};
 ghost use Rattle.type_terms.specs.Terms.{nodes_of};
 
-use crate::no_solution::NoSolution;
 use crate::parts::{is_variable, push_parts};
 use crate::read::shape_at;
 use elm_base::{Halt, Name, NoMemory};
 use sqlite_items::Items;
 use std::alloc::Global;
+use type_sorts::NoSolution;
 use type_terms::{Flag, Shape, Store, TermId};
 
 /// Whether types of this shape are comparable where all parts are.

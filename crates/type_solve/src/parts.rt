@@ -88,13 +88,7 @@ pub fn part(shape: &Shape, at: usize) -> TermId
         Shape::Variable { flag: _ } => 0,
         Shape::Opaque { number: _, flag: _ } => 0,
         Shape::Named { name: _, arguments } => arguments.as_slice()[at],
-        Shape::Arrow { from, to } => {
-            if at == 0 {
-                *from
-            } else {
-                *to
-            }
-        }
+        Shape::Arrow { from, to } => { if at == 0 { *from } else { *to } }
         Shape::Tuple { parts } => parts.as_slice()[at],
         Shape::Row { fields, rest } => match rest {
             None => fields.as_slice()[at].1,
@@ -120,11 +114,7 @@ pub fn push_parts(shape: &Shape, terms: &mut Items<TermId>) -> Result<(), NoMemo
 }
 
 /// Puts the parts of two shapes in wait, each with that at its place.
-pub fn push_pairs(
-    first: &Shape,
-    second: &Shape,
-    waiting: &mut Items<Pair>,
-) -> Result<(), NoMemory>
+pub fn push_pairs(first: &Shape, second: &Shape, waiting: &mut Items<Pair>) -> Result<(), NoMemory>
     requires { length (parts first.now) ≡ length (parts second.now) }
     ensures { OnOk result (waiting.new ≡ waiting.old ++ zipped (parts first.now) (parts second.now)) }
 {

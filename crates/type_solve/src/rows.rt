@@ -4,6 +4,7 @@ ghost use Rattle.std.specs.Prelude.{◌≡◌, ◌<◌, ◌++◌, length, IfOk, 
 ghost use Rattle.elm_typing.specs.Ground.{Record};
 ghost use Rattle.type_solve.specs.Rests.{RestsApart};
 ghost use Rattle.type_solve.specs.Steps.{IsRow, IsTail, Flattens, under};
+ghost use Rattle.type_solve.specs.Taken.{rest_term};
 ghost use Rattle.type_terms.specs.Solutions.{Assignment, Solves};
 ghost use Rattle.type_terms.specs.Terms.{nodes_of, node_at, IsRest, IsLink};
 
@@ -22,6 +23,17 @@ pub enum Tail {
     Rigid { at: TermId, number: u32 },
     /// The variable at this place of the store.
     Open { at: TermId },
+}
+
+/// The term at which the tail stands.
+pub fn rest_term(tail: Tail) -> Option<TermId>
+    ensures { result ≡ rest_term tail }
+{
+    match tail {
+        Tail::Closed => None,
+        Tail::Rigid { at, number: _ } => Some(at),
+        Tail::Open { at } => Some(at),
+    }
 }
 
 /// All fields of a row, of one label the newest first, and what stands behind them.

@@ -2,20 +2,20 @@
 
 ghost use Rattle.std.specs.Prelude.{◌≡◌, ◌≢◌, Err, OnOk, OnErr};
 ghost use Rattle.elm_base.specs.declared.memory.Halt.TheVariants.{Because};
-ghost use Rattle.type_solve.specs.declared.no_solution.NoSolution.{NoSolution};
+ghost use Rattle.type_sorts.specs.declared.no_solution.NoSolution.{NoSolution};
 ghost use Rattle.type_solve.specs.Grown.{IsGrown};
 ghost use Rattle.type_solve.specs.Rests.{RestsApart, IsType};
 ghost use Rattle.type_solve.specs.Unifying.{Unifies};
 ghost use Rattle.type_terms.specs.Solutions.{Assignment, Solves};
 ghost use Rattle.type_terms.specs.Terms.{nodes_of};
 
-use crate::no_solution::NoSolution;
 use crate::pair::Pair;
 use crate::step::{Step, descend};
 use crate::take::take;
 use elm_base::Halt;
 use sqlite_items::Items;
 use std::alloc::Global;
+use type_sorts::NoSolution;
 use type_terms::{Store, TermId};
 
 /// Makes two terms equal, and may leave changes behind where it refuses.
@@ -52,12 +52,7 @@ fn solve(alloc: Global, store: &mut Store, a: TermId, b: TermId) -> Result<(), H
 ///
 /// The rest of a row has to be a row, or a variable or opaque type without flag that stands only as a rest; neither
 /// `a` nor `b` is such a variable or opaque type. Both stay so.
-pub fn unify(
-    alloc: Global,
-    store: &mut Store,
-    a: TermId,
-    b: TermId,
-) -> Result<(), Halt<NoSolution>>
+pub fn unify(alloc: Global, store: &mut Store, a: TermId, b: TermId) -> Result<(), Halt<NoSolution>>
     requires first { IsType (nodes_of store.old) a }
     requires second { IsType (nodes_of store.old) b }
     requires apart { RestsApart (nodes_of store.old) }

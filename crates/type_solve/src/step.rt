@@ -27,7 +27,10 @@ pub enum Step {
     /// What can't be.
     Clash,
     /// The variable stands for the other term.
-    Binds { at: TermId, to: TermId },
+    Binds {
+        at: TermId,
+        to: TermId,
+    },
     /// The variable, a rest, is these fields over the tail.
     Extends {
         at: TermId,
@@ -91,12 +94,7 @@ fn decide_open(
 }
 
 /// The case that the other tail is no variable.
-fn extend(
-    left: Items<(Name, TermId)>,
-    at: TermId,
-    right: Items<(Name, TermId)>,
-    tail: Tail,
-) -> Step
+fn extend(left: Items<(Name, TermId)>, at: TermId, right: Items<(Name, TermId)>, tail: Tail) -> Step
     requires { (other : ℕ) → tail ≢ Open other }
     ensures { (nodes : List Node) → Disjoint left right → IsTail nodes (Open at) → IsTail nodes tail → Each (IsType nodes) (terms_of left) → Each (IsType nodes) (terms_of right) → Decides nodes left (Open at) right tail result }
 {
@@ -215,11 +213,7 @@ fn visit(
 }
 
 /// Compares the pairs that wait, the last one first, until one asks for something. `Done` says that none is left.
-pub fn descend(
-    alloc: Global,
-    store: &Store,
-    waiting: &mut Items<Pair>,
-) -> Result<Step, NoMemory>
+pub fn descend(alloc: Global, store: &Store, waiting: &mut Items<Pair>) -> Result<Step, NoMemory>
     requires types { Each (IsType (nodes_of store.now)) (terms_in waiting.old) }
     requires apart { RestsApart (nodes_of store.now) }
     ensures { IfOk result (λ step. Descends (nodes_of store.now) waiting.old waiting.new step) }

@@ -5,36 +5,25 @@ ghost use Rattle.elm_base.specs.declared.memory.Halt.TheVariants.{Because};
 ghost use Rattle.elm_typing.specs.Ground.{Row, Record};
 ghost use Rattle.elm_typing.specs.Ordered.{RowInOrder};
 ghost use Rattle.elm_typing.specs.Rows.{extended_all};
-ghost use Rattle.type_solve.specs.declared.no_solution.NoSolution.{NoSolution};
+ghost use Rattle.type_sorts.specs.declared.no_solution.NoSolution.{NoSolution};
 ghost use Rattle.type_solve.specs.declared.step.Step.TheVariants.{Done, Binds, Extends, Splits};
 ghost use Rattle.type_solve.specs.Grown.{IsGrown};
 ghost use Rattle.type_solve.specs.declared.rows.Tail.TheVariants.{Open};
 ghost use Rattle.type_solve.specs.Rests.{RestsApart, IsType};
 ghost use Rattle.type_solve.specs.Steps.{IsTail, Holds, CanBind, CanExtend, CanSplit, CanTake};
-ghost use Rattle.type_solve.specs.Taken.{rest_term, Takes, OpensRest};
+ghost use Rattle.type_solve.specs.Taken.{Takes, OpensRest};
 ghost use Rattle.type_terms.specs.Depth.{doubled, IsSound};
 ghost use Rattle.type_terms.specs.Solutions.{Assignment, Solves, fields_of};
 ghost use Rattle.type_terms.specs.Terms.{nodes_of, terms_of, Each};
 
 use crate::bind::bind;
-use crate::no_solution::NoSolution;
-use crate::rows::Tail;
+use crate::rows::{Tail, rest_term};
 use crate::step::Step;
 use elm_base::{Halt, Name};
 use sqlite_items::Items;
 use std::alloc::Global;
+use type_sorts::NoSolution;
 use type_terms::{Flag, Shape, Store, TermId};
-
-/// The term at which the tail stands.
-fn rest_term(tail: Tail) -> Option<TermId>
-    ensures { result ≡ rest_term tail }
-{
-    match tail {
-        Tail::Closed => None,
-        Tail::Rigid { at, number: _ } => Some(at),
-        Tail::Open { at } => Some(at),
-    }
-}
 
 /// The rest is to be these fields over the tail.
 fn extend_rest(

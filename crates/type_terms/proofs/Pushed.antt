@@ -76,7 +76,7 @@ links-inside nodes bound end _ sound (itself) lt = lt
 links-inside nodes bound end _ sound (further i next e r) lt = links-inside nodes bound end next sound r (inside-link nodes i next bound sound e)
 
 -- no row has the new term as its rest
-new-no_rest : (nodes : List Node) (bound : ℕ) (form : Shape) → IsSound nodes bound → Each (IsBelow (length nodes)) (parts form) → IsRest (nodes ++ End form ∷ []) (length nodes) → ⊥
+pub new-no_rest : (nodes : List Node) (bound : ℕ) (form : Shape) → IsSound nodes bound → Each (IsBelow (length nodes)) (parts form) → IsRest (nodes ++ End form ∷ []) (length nodes) → ⊥
 new-no_rest nodes bound form sound inside h =
     let lt : h.rest < length nodes = rest-inside in
     let back = links-inside nodes bound (length nodes) h.rest sound (links-pushed nodes form (length nodes) h.rest h.leads) lt in

@@ -1,4 +1,4 @@
-use Rattle.std.proofs.Common.{Ok, ap, refl, sym, subst, ◌≡◌, ℕ}
+use Rattle.std.proofs.Common.{Ok, ap, refl, sym, subst, ℕ}
 use Rattle.type_terms.specs.Solutions.{IsNoNewRest}
 use Rattle.type_terms.specs.Terms.{nodes_of, StandsIn, IsRest}
 use Rattle.type_terms.proofs.Existence.{solution-exists}

@@ -1,7 +1,7 @@
-use Rattle.std.proofs.Common.{arith, rules, ◌≡◌, ◌<◌, ◌++◌, drop, length, [], ◌∷◌, refl, sym, ◌∙◌, ap, subst, get_or}
+use Rattle.std.proofs.Common.{rules, ◌≡◌, ◌<◌, ◌++◌, length, [], ◌∷◌, sym, ◌∙◌, ap, subst}
 use Rattle.std.proofs.lemmas.Option.{get_or_from_slice_get}
 use Rattle.std.proofs.Math.ListN.{drop_of_length-le}
-use Rattle.type_solve.specs.Matching.{Fields, StandsFirst}
+use Rattle.type_solve.specs.Matching.{Fields}
 use Rattle.type_solve.proofs.Match.{Waits, step_both, step_left, waits_none, waits_all}
 use Rattle.type_solve.proofs.fields.match_fields.Goals as goal
 use Rattle.type_solve.proofs.fields.match_fields.Goals.{in-Some+in_ok-push-in-Some, in-None+in_ok-copy-in-None+in_ok-push-in-None}

@@ -1,4 +1,4 @@
-use Rattle.std.proofs.Common.{arith, [], refl, sym, ◌∙◌, ap, get_or}
+use Rattle.std.proofs.Common.{arith, [], refl, sym, ◌∙◌, ap}
 use Rattle.type_solve.proofs.Match.{stands_first, misses_get, read_same}
 use Rattle.type_solve.proofs.fields.place_of.Goals as goal
 

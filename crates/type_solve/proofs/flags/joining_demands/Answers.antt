@@ -1,5 +1,5 @@
 use Rattle.elm_typing.specs.declared.flag.Flag.TheVariants.{Appendable}
-use Rattle.std.proofs.Common.{◌≡◌, ◌∙◌, true, false, refl, ap, [], ◌∷◌, ◌++◌}
+use Rattle.std.proofs.Common.{◌∙◌, refl, ap, [], ◌∷◌, ◌++◌}
 use Rattle.type_solve.proofs.Asking.{joins_variable}
 use Rattle.type_solve.proofs.flags.joining_demands.Goals as goal
 

@@ -1,4 +1,4 @@
-use Rattle.std.proofs.Common.{◌≡◌, true, false, refl, sym}
+use Rattle.std.proofs.Common.{◌≡◌, true, false, refl}
 use Rattle.type_solve.specs.declared.rows.Tail.TheVariants.{Open}
 use Rattle.type_solve.proofs.Deciding.{decides_never, decides_left}
 use Rattle.type_solve.proofs.step.decide_open.Goals as goal

@@ -1,6 +1,4 @@
-use Rattle.std.proofs.Common.{◌≡◌, ◌++◌, sym, ap, ◌∙◌}
-use Rattle.type_solve.specs.declared.step.Step.TheVariants.{Done}
-use Rattle.type_solve.proofs.Visiting.{pops_types, taken_type, waits_lighter, goes_on, stops_at, nothing_waits}
+use Rattle.type_solve.proofs.Visiting.{pops_types, taken_type, waits_lighter, goes_on, stops_at}
 use Rattle.type_solve.proofs.step.descend.Goals as goal
 
 pub find-a-requires : goal.find-a-requires

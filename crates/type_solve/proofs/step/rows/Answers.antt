@@ -1,6 +1,3 @@
-use Rattle.std.proofs.Common.{◌≡◌, List, ◌++◌, subst}
-use Rattle.type_solve.specs.declared.pair.Pair.{Pair}
-use Rattle.type_solve.specs.Matching.{Fields, Matches}
 use Rattle.type_solve.proofs.Visiting.{visits_rows}
 use Rattle.type_solve.proofs.step.rows.Goals as goal
 
@@ -9,5 +6,5 @@ returns c =
     let matched = rw c.as_slice.ensures at c.in_ok-extra.ensures in
     visits_rows _ _ _ _ _ _ _ _ _ _ c.in_ok-left.ensures c.in_ok-right.ensures matched
     (c.decide.ensures _ matched.2.apart c.in_ok-left.ensures.tail c.in_ok-right.ensures.tail
-        (matched.2.types _ c.in_ok-left.ensures.types c.in_ok-right.ensures.types).1
-        (matched.2.types _ c.in_ok-left.ensures.types c.in_ok-right.ensures.types).2)
+    (matched.2.types _ c.in_ok-left.ensures.types c.in_ok-right.ensures.types).1
+    (matched.2.types _ c.in_ok-left.ensures.types c.in_ok-right.ensures.types).2)

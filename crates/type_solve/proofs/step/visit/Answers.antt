@@ -1,4 +1,4 @@
-use Rattle.std.proofs.Common.{◌≡◌, ◌++◌, true, false, refl}
+use Rattle.std.proofs.Common.{◌≡◌, true, false, refl}
 use Rattle.type_solve.proofs.Visiting.{visits_same, visits_first, visits_second, visits_clash, visits_parts}
 use Rattle.type_solve.proofs.step.visit.Goals as goal
 use Rattle.type_solve.proofs.step.visit.Goals.{else-is_row-via-then-is_row+else-is_row-2, else-is_row-via-else-is_row}

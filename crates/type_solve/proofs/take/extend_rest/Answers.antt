@@ -1,6 +1,6 @@
 use Rattle.std.proofs.Common.{◌∙◌, ap}
 use Rattle.type_solve.proofs.Narrowing.{ok_map, grown_none, grown_more, grown_through}
-use Rattle.type_solve.proofs.Taking.{rest_end, extend_parts, rowed, rowed_inside, rowed_variable, rowed_target, rowed_end, rowed_row, rowed_heavier, extends_taken, extends_refused, takes_at}
+use Rattle.type_solve.proofs.Taking.{rest_end, rowed, rowed_variable, rowed_target, rowed_heavier, extends_taken, extends_refused, takes_at}
 use Rattle.type_solve.proofs.take.extend_rest.Goals as goal
 
 pub bind-requires-clause-variable : goal.bind-requires-clause-variable
@@ -44,4 +44,4 @@ returns-clause-refused c =
     let m = c.in_ok-row.ensures in
     let r = rowed c.args.store.now c.make.new.self _ c.args.at c.find-end.result _ _ _ _ c.find-end.ensures.sound c.requires.apart c.requires.can (rest_end _ _ _ _ _ c.requires.can c.find-end.ensures.leads) c.rest_term.ensures m.place m.state m.solutions m.extends in
     λ why e s h holds. extends_refused _ _ _ _ _ _ r (c.bind.ensures.refused why e) s h
-        (ap s (rest_end _ _ _ _ _ c.requires.can c.find-end.ensures.leads) ∙ holds)
+    (ap s (rest_end _ _ _ _ _ c.requires.can c.find-end.ensures.leads) ∙ holds)

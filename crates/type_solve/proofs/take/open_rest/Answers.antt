@@ -1,4 +1,4 @@
-use Rattle.std.proofs.Common.{◌≡◌, ◌∙◌, Err, ap, sym}
+use Rattle.std.proofs.Common.{◌≡◌, ◌∙◌, Err, ap}
 use Rattle.elm_base.specs.declared.memory.Halt.TheVariants.{Because}
 use Rattle.type_solve.proofs.Narrowing.{grown_none, grown_more, grown_same, grown_through}
 use Rattle.type_solve.proofs.Taking.{tail_end, fresh_end, opened, opened_variable, opened_target, opened_heavier, opens_rest, opens_at, open_refused}
@@ -13,8 +13,8 @@ bind-requires-clause-variable c =
     let m = c.in_ok-row.ensures in
     let same = tail_end _ _ _ c.requires.source c.find-end.ensures.leads in
     let r = opened c.args.store.now c.fresh.new.self c.make.new.self _ _ c.args.at c.find-end.result _ c.find-rest.result _ c.args.fields c.find-end.ensures.sound c.find-rest.ensures.sound
-        c.requires.apart c.requires.source c.requires.types same f.place (fresh_end c.args.store.now c.fresh.new.self _ _ f.place f.state c.find-rest.ensures.leads)
-        f.state f.solutions f.extends m.place m.state m.solutions m.extends in
+    c.requires.apart c.requires.source c.requires.types same f.place (fresh_end c.args.store.now c.fresh.new.self _ _ f.place f.state c.find-rest.ensures.leads)
+    f.state f.solutions f.extends m.place m.state m.solutions m.extends in
     opened_variable _ _ _ _ _ _ r
 
 pub bind-requires-clause-target : goal.bind-requires-clause-target
@@ -23,8 +23,8 @@ bind-requires-clause-target c =
     let m = c.in_ok-row.ensures in
     let same = tail_end _ _ _ c.requires.source c.find-end.ensures.leads in
     let r = opened c.args.store.now c.fresh.new.self c.make.new.self _ _ c.args.at c.find-end.result _ c.find-rest.result _ c.args.fields c.find-end.ensures.sound c.find-rest.ensures.sound
-        c.requires.apart c.requires.source c.requires.types same f.place (fresh_end c.args.store.now c.fresh.new.self _ _ f.place f.state c.find-rest.ensures.leads)
-        f.state f.solutions f.extends m.place m.state m.solutions m.extends in
+    c.requires.apart c.requires.source c.requires.types same f.place (fresh_end c.args.store.now c.fresh.new.self _ _ f.place f.state c.find-rest.ensures.leads)
+    f.state f.solutions f.extends m.place m.state m.solutions m.extends in
     opened_target _ _ _ _ _ _ r
 
 pub bind-requires-clause-heavier : goal.bind-requires-clause-heavier
@@ -33,8 +33,8 @@ bind-requires-clause-heavier c =
     let m = c.in_ok-row.ensures in
     let same = tail_end _ _ _ c.requires.source c.find-end.ensures.leads in
     let r = opened c.args.store.now c.fresh.new.self c.make.new.self _ _ c.args.at c.find-end.result _ c.find-rest.result _ c.args.fields c.find-end.ensures.sound c.find-rest.ensures.sound
-        c.requires.apart c.requires.source c.requires.types same f.place (fresh_end c.args.store.now c.fresh.new.self _ _ f.place f.state c.find-rest.ensures.leads)
-        f.state f.solutions f.extends m.place m.state m.solutions m.extends in
+    c.requires.apart c.requires.source c.requires.types same f.place (fresh_end c.args.store.now c.fresh.new.self _ _ f.place f.state c.find-rest.ensures.leads)
+    f.state f.solutions f.extends m.place m.state m.solutions m.extends in
     λ s h. opened_heavier _ _ _ _ _ _ r s h
 
 pub bind-requires-clause-apart : goal.bind-requires-clause-apart
@@ -43,8 +43,8 @@ bind-requires-clause-apart c =
     let m = c.in_ok-row.ensures in
     let same = tail_end _ _ _ c.requires.source c.find-end.ensures.leads in
     let r = opened c.args.store.now c.fresh.new.self c.make.new.self _ _ c.args.at c.find-end.result _ c.find-rest.result _ c.args.fields c.find-end.ensures.sound c.find-rest.ensures.sound
-        c.requires.apart c.requires.source c.requires.types same f.place (fresh_end c.args.store.now c.fresh.new.self _ _ f.place f.state c.find-rest.ensures.leads)
-        f.state f.solutions f.extends m.place m.state m.solutions m.extends in
+    c.requires.apart c.requires.source c.requires.types same f.place (fresh_end c.args.store.now c.fresh.new.self _ _ f.place f.state c.find-rest.ensures.leads)
+    f.state f.solutions f.extends m.place m.state m.solutions m.extends in
     r.apart
 
 pub returns-in-Ok-clause-opened : goal.returns-in-Ok-clause-opened
@@ -53,8 +53,8 @@ returns-in-Ok-clause-opened c =
     let m = c.in_ok-row.ensures in
     let same = tail_end _ _ _ c.requires.source c.find-end.ensures.leads in
     let r = opened c.args.store.now c.fresh.new.self c.make.new.self _ _ c.args.at c.find-end.result _ c.find-rest.result _ c.args.fields c.find-end.ensures.sound c.find-rest.ensures.sound
-        c.requires.apart c.requires.source c.requires.types same f.place (fresh_end c.args.store.now c.fresh.new.self _ _ f.place f.state c.find-rest.ensures.leads)
-        f.state f.solutions f.extends m.place m.state m.solutions m.extends in
+    c.requires.apart c.requires.source c.requires.types same f.place (fresh_end c.args.store.now c.fresh.new.self _ _ f.place f.state c.find-rest.ensures.leads)
+    f.state f.solutions f.extends m.place m.state m.solutions m.extends in
     opens_at _ _ _ _ _ _ same (opens_rest _ _ _ _ _ _ _ r c.requires.types c.in-Ok.ensures.bound)
 
 pub returns-in-Ok-clause-grown : goal.returns-in-Ok-clause-grown
@@ -69,7 +69,7 @@ returns-in-Err-clause-refused c =
     let m = c.in_ok-row.ensures in
     let same = tail_end _ _ _ c.requires.source c.find-end.ensures.leads in
     let r = opened c.args.store.now c.fresh.new.self c.make.new.self _ _ c.args.at c.find-end.result _ c.find-rest.result _ c.args.fields c.find-end.ensures.sound c.find-rest.ensures.sound
-        c.requires.apart c.requires.source c.requires.types same f.place (fresh_end c.args.store.now c.fresh.new.self _ _ f.place f.state c.find-rest.ensures.leads)
-        f.state f.solutions f.extends m.place m.state m.solutions m.extends in
+    c.requires.apart c.requires.source c.requires.types same f.place (fresh_end c.args.store.now c.fresh.new.self _ _ f.place f.state c.find-rest.ensures.leads)
+    f.state f.solutions f.extends m.place m.state m.solutions m.extends in
     λ why e s row h o x. open_refused _ _ _ _ _ _ r c.requires.types
     (let i : c.in-Err.halt ≡ Because why = cc e in c.bind.ensures.refused why (c.in-Err.is ∙ ap Err i)) s row h o (ap s same ∙ x)
