@@ -2,7 +2,7 @@ ghost use Rattle.std.specs.Prelude.{◌≡◌, ◌↔◌, IsTrue};
 
 use type_terms::TermId;
 
-/// What the sort of a term comes to: one that is known, or that of a variable or of an opaque type.
+/// What the sort of a term comes to, the vertices of the notes' graph: one that is known, or that of a variable or of an opaque type.
 #[derive(Clone, Copy, Debug, PartialEq, Eq)]
 pub enum Vertex {
     Simple,
@@ -14,6 +14,7 @@ pub enum Vertex {
 }
 
 impl Vertex {
+    /// Whether they are the same vertex.
     pub fn is(self, other: Vertex) -> bool
         ensures { IsTrue result ↔ (self ≡ other) }
     {

@@ -1,4 +1,4 @@
-ghost use Rattle.std.specs.Prelude.{◌≡◌, ◌≢◌, ℕ, IfOk, IfErr, OnOk, length};
+ghost use Rattle.std.specs.Prelude.{◌≡◌, ◌≢◌, ℕ, IfOk, IfErr, OnOk};
 ghost use Rattle.elm_base.specs.declared.memory.Halt.TheVariants as halt;
 ghost use Rattle.elm_typing.specs.Sorts.{Sort};
 ghost use Rattle.type_sorts.specs.Sorts.{Meets};
@@ -31,8 +31,8 @@ fn edges(alloc: Global, store: &Store, rests: &[bool]) -> Result<Items<Edge>, No
     Ok(edges)
 }
 
-/// Whether some solution of the store, with some choice of the sorts of its opaque types, meets all its notes.
-/// Refused exactly where there is none.
+/// Whether some solution of the store, with some choice of the sorts of its opaque types without flag, meets all its
+/// notes. Refused exactly where none does. The store has a solution.
 pub fn sorts(alloc: Global, store: &Store) -> Result<(), Halt<NoSolution>>
     requires solvable { (s : Assignment) × Solves (nodes_of store.now) s }
     ensures met { OnOk result ((s : Assignment) × (chosen : ℕ → Sort) × Solves (nodes_of store.now) s × Meets s chosen (notes_of store.now)) }

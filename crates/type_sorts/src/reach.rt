@@ -1,4 +1,4 @@
-ghost use Rattle.std.specs.Prelude.{◌≡◌, List, OnOk, IfOk, true, false};
+ghost use Rattle.std.specs.Prelude.{◌≡◌, List, IfOk, true, false};
 ghost use Rattle.type_sorts.specs.declared.edge.Vertex.{Vertex};
 ghost use Rattle.type_sorts.specs.declared.edge.Vertex.TheVariants.{Simple};
 ghost use Rattle.type_sorts.specs.Vertices.{Follows, Reached, Separates};

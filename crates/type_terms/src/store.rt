@@ -1,4 +1,4 @@
-ghost use Rattle.std.specs.Prelude.{◌≡◌, ℕ, suc, ◌+◌, ◌-◌, ◌<◌, ◌≤◌, ◌↔◌, List, [], ◌∷◌, ◌++◌, length, drop, slice_set, reverse, IfOk, OnOk, OnErr};
+ghost use Rattle.std.specs.Prelude.{◌≡◌, ℕ, suc, ◌+◌, ◌-◌, ◌<◌, ◌≤◌, ◌↔◌, List, [], ◌∷◌, ◌++◌, length, drop, slice_set, IfOk, OnOk, OnErr};
 ghost use Rattle.elm_typing.specs.declared.flag.Flag.{Flag};
 ghost use Rattle.elm_typing.specs.Flags.{HasFlag, joined};
 ghost use Rattle.elm_typing.specs.Ground.{Ground};
@@ -81,7 +81,9 @@ impl Store {
         self.make(Shape::Variable { flag })
     }
 
-    /// A new term of this shape, whose parts stand in the store. The limit on terms is that of `fresh`.
+    /// A new term of this shape, whose parts stand in the store. The limit on terms is that of `fresh`. A row makes an
+    /// opaque type its rest, and then that stands for a record: what `solutions` and `extends` say is of shapes that make
+    /// no opaque type a rest that wasn't one.
     pub fn make(&mut self, shape: Shape) -> Result<TermId, NoMemory>
         requires { Each (IsBelow (length (nodes_of self.old))) (parts shape) }
         ensures place { IfOk result (λ at. at ≡ length (nodes_of self.old)) }
@@ -93,7 +95,7 @@ impl Store {
         self.add(shape)
     }
 
-    /// What the term is: the shape at the end of its links.
+    /// What the term is: the shape at the end of its links, whose parts stand in the store.
     pub fn shape(&self, at: TermId) -> &Shape
         requires { at < length (nodes_of self.now) }
         ensures end { (end : ℕ) × LinksTo (nodes_of self.now) end at × (node_at (nodes_of self.now) end ≡ End result.now) }
@@ -125,7 +127,7 @@ impl Store {
         end
     }
 
-    /// The variable `at` has this flag besides the one that it had.
+    /// The unlinked variable `at` has this flag besides the one that it had.
     pub fn narrow(&mut self, at: TermId, flag: Flag) -> Result<(), NoMemory>
         requires inside { at < length (nodes_of self.old) }
         requires variable { IsVariable (node_at (nodes_of self.old) at) }
@@ -138,7 +140,9 @@ impl Store {
         self.rewrite(at, had, Node::End(Shape::Variable { flag }))
     }
 
-    /// The variable `at` stands for what `to` stands for.
+    /// The variable `at`, which is unlinked and doesn't stand in `to`, stands for what `to` stands for. Each solution
+    /// gives `to` a type with the flag of `at`, and there is a solution; where `at` is the rest of a row, an opaque type
+    /// that `to` stands for is one already.
     pub fn link(&mut self, at: TermId, to: TermId) -> Result<(), NoMemory>
         requires inside { at < length (nodes_of self.old) }
         requires target { to < length (nodes_of self.old) }
@@ -283,7 +287,8 @@ impl Store {
         }
     }
 
-    /// Takes back all changes since the mark: terms, links, flags and notes are as they were then.
+    /// Takes back all changes since the mark: terms, links, flags and notes are as they were then, and so are the older
+    /// marks. The store must not have been taken back below the mark since.
     pub fn undo(&mut self, mark: StoreMark)
         requires { mark ≤ length self.old }
         ensures { self.new ≡ drop (length self.old - mark) self.old }
