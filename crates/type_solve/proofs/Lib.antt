@@ -7,7 +7,7 @@ mod Reading
 mod Adding
 mod Asking
 mod Binding
-mod Building
+pub mod Building
 mod Deciding
 mod Standing
 mod Visiting
