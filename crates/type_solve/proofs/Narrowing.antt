@@ -19,13 +19,16 @@ use Rattle.type_solve.specs.Steps.{IsRow, IsTail}
 use Rattle.type_solve.proofs.Asking.{within_front, have_front}
 
 pub grown_none : (store : List State) → IsGrown store store
-grown_none store = ([], refl)
+grown_none store = ([], refl, refl)
 
-pub grown_more : (old now new : List State) (state : State) → IsGrown old now → new ≡ state ∷ now → IsGrown old new
-grown_more old now new state g e = (state ∷ g.0, e ∙ ap (λ l. state ∷ l) g.1)
+-- a change of the terms alone
+pub grown_more : (old now new : List State) (nodes : List Node) → IsGrown old now → new ≡ record { nodes = nodes; notes = notes_of now } ∷ now → IsGrown old new
+grown_more old now new nodes g e =
+    let state : State = record { nodes = nodes; notes = notes_of now } in
+    (state ∷ g.0, e ∙ ap (λ l. state ∷ l) g.1, ap notes_of e ∙ g.2)
 
 pub grown_same : (old now new : List State) → IsGrown old now → new ≡ now → IsGrown old new
-grown_same old now new g e = (g.0, e ∙ g.1)
+grown_same old now new g e = (g.0, e ∙ g.1, ap notes_of e ∙ g.2)
 
 -- what follows from an answer's fact holds of the answer too
 pub ok_map : {A E : Type 0} (P Q : Type 0) (r : Result A E) → OnOk r P → (P → Q) → OnOk r Q
@@ -33,7 +36,7 @@ ok_map P Q (Ok v) p f = f p
 ok_map P Q (Err e) p f = p
 
 pub grown_through : (old now new : List State) → IsGrown old now → IsGrown now new → IsGrown old new
-grown_through old now new g h = (h.0 ++ g.0, h.1 ∙ ap (λ l. h.0 ++ l) g.1 ∙ sym (append_assoc h.0 g.0 old))
+grown_through old now new g h = (h.0 ++ g.0, h.1 ∙ ap (λ l. h.0 ++ l) g.1 ∙ sym (append_assoc h.0 g.0 old), h.2 ∙ g.2)
 
 unlinked_set : (nodes : List Node) (v : ℕ) (f : Flag) → v < length nodes → IsVariable (node_at nodes v) → unlinked (set nodes v (End (shape.Variable f))) ≡ unlinked nodes
 unlinked_set [] v f lt var = absurd (omega arith)
@@ -118,7 +121,7 @@ narrowing_more old now new at flag left rest d n e state solutions =
     let had = variable_flag (node_at (nodes_of now) d.at) (narrowing_variable old now at flag left rest d n e).1 in
     let is = state had.0 had.1 in
     let w = within_front (nodes_of old) at rest d (subst (StandWithin (nodes_of old) at) e n.inside) in record {
-      grown = grown_more old now new (record { nodes = set (nodes_of now) d.at (End (shape.Variable (joined had.0 d.flag))); notes = notes_of now }) n.grown is;
+      grown = grown_more old now new (set (nodes_of now) d.at (End (shape.Variable (joined had.0 d.flag)))) n.grown is;
       to = λ s h a. let r = (solutions s).0 h in n.to s r.0 (subst (AllHave s) (sym e) ((have_front s rest d).1 (a, r.1)));
       back = λ s h f. let r = n.back s h f in let p = (have_front s rest d).0 (subst (AllHave s) e r.1) in ((solutions s).1 (r.0, p.1), p.0);
       kept = subst (λ (nodes : List Node). OnlyNarrows (nodes_of old) nodes at) (sym (ap nodes_of is))
