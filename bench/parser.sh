@@ -1,18 +1,18 @@
 #!/bin/sh
-# Times the parser of expressions on one `let` of 131072, 262144 and 524288 bytes, parsed 16 times by `parser_bench`, and finds
+# Times the parser of expressions on one `let` of 131072, 262144, 524288 and 1048576 bytes, parsed 16 times by `parser_bench`, and finds
 # how much stack it takes for the deepest accepted tree of each form, in steps of 64 KiB.
-# Usage: bench/parser.sh PROGRAM, the built program `parser_bench`. The best of five runs counts.
+# Usage: bench/parser.sh PROGRAM, the built program `parser_bench`. The best of 25 runs counts.
 set -eu
 here=$(dirname "$0")
 work=$(mktemp -d)
 trap 'rm -r "$work"' EXIT
-for size in 131072 262144 524288; do
+for size in 131072 262144 524288 1048576; do
     python3 "$here/parser.py" file "$size" >"$work/$size"
     python3 - "$1" "$work/$size" <<'PY'
 import subprocess, sys, time
 program, path = sys.argv[1:]
 best = None
-for _ in range(5):
+for _ in range(25):
     with open(path, "rb") as text:
         begun = time.perf_counter()
         said = subprocess.run([program], stdin=text, capture_output=True, check=True).stdout.decode().strip()
