@@ -34,6 +34,3 @@ pub use tree::{
 
 /// A value's place in an arena of values: values that were made later have greater places.
 pub type Ref = u32;
-
-#[cfg(test)]
-mod tests;
