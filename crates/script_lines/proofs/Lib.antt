@@ -5,3 +5,4 @@ pub mod Segments
 pub mod Numbers
 pub mod Kept
 pub mod Drilled
+pub mod Whole

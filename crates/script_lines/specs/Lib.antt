@@ -5,3 +5,4 @@ pub mod Kept
 pub mod Reading
 pub mod Drill
 pub mod Worked
+pub mod Laws

@@ -23,6 +23,15 @@ read_line l = if nat_lt 65536 (length l.bytes) then line.TooLong else read_text 
 abbrev pub readings : List ℕ → List Line
 readings script = map read_line (lines script)
 
+-- the lines that a newline ended
+abbrev pub ended_lines : List ScriptLine → List ScriptLine
+ended_lines [] = []
+ended_lines (l ∷ more) = if l.ended then l ∷ ended_lines more else ended_lines more
+
+-- what the lines say that a newline ended
+abbrev pub whole_readings : List ℕ → List Line
+whole_readings script = map read_line (ended_lines (lines script))
+
 -- From one text to the next, a line that a newline ended was handed out, if there is one.
 abbrev pub HandsOut : List ℕ → List ℕ → Option Line → Type 0
 HandsOut old new None = HasNoNewline old × (new ≡ old)

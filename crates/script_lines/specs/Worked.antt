@@ -4,9 +4,8 @@ use Rattle.elm_base.specs.declared.command.Command.{Command}
 use Rattle.elm_base.specs.declared.command.Command.TheVariants.{Input, Deliver, Goto, Latest, Resume, Swap, Save, Load, Show, Quit}
 use Rattle.script_lines.specs.declared.line.Line.{Line}
 use Rattle.script_lines.specs.declared.line.Line.TheVariants as line
-use Rattle.script_lines.specs.Lines.{text_of, shortened}
 use Rattle.script_lines.specs.Commands.{command_of}
-use Rattle.script_lines.specs.Reading.{readings}
+use Rattle.script_lines.specs.Reading.{readings, whole_readings}
 
 abbrev pub Spells : List ℕ → Command → Type 0
 Spells text command = command_of text ≡ Some command
@@ -72,3 +71,4 @@ pub record Lines : Type 0 where
   pub two : readings (codes "show\n\nquit\n") ≡ line.Command Show ∷ line.Nothing ∷ line.Command Quit ∷ []
   pub no_newline : readings (codes "show\nquit") ≡ line.Command Show ∷ line.Command Quit ∷ []
   pub return_at_end : readings (codes "quit\r") ≡ line.Bad ∷ []
+  pub whole : whole_readings (codes "show\nquit") ≡ line.Command Show ∷ []

@@ -4,14 +4,17 @@
 mod bytes;
 mod commands;
 mod drill;
+mod laws;
 mod line;
 mod lines;
 mod names;
 mod verb;
-mod worked;
 
 pub use drill::script;
+pub use laws::{
+    commands_are_as_worked, kept_bytes_say_the_same, lines_are_as_worked, lines_join,
+    whole_lines_are_handed_out,
+};
 pub use line::Line;
 pub use lines::Lines;
 pub use names::is_file_name;
-pub use worked::{commands_are_as_worked, lines_are_as_worked};

@@ -1,7 +1,7 @@
 use Rattle.std.proofs.Common.{refl}
 use Rattle.std.specs.Str.{chars, is_utf8}
 use lib.Utf8.{encode}
-use Rattle.script_lines.proofs.worked.commands_are_as_worked.Goals as goal
+use Rattle.script_lines.proofs.laws.commands_are_as_worked.Goals as goal
 
 pub returns : goal.returns
 unfolding chars is_utf8 encode

@@ -1,7 +1,7 @@
 use Rattle.std.proofs.Common.{refl}
 use Rattle.std.specs.Str.{chars, is_utf8}
 use lib.Utf8.{encode}
-use Rattle.script_lines.proofs.worked.lines_are_as_worked.Goals as goal
+use Rattle.script_lines.proofs.laws.lines_are_as_worked.Goals as goal
 
 pub returns : goal.returns
 unfolding chars is_utf8 encode
@@ -21,4 +21,5 @@ returns c = record {
   two = refl;
   no_newline = refl;
   return_at_end = refl;
+  whole = refl;
 }
