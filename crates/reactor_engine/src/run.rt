@@ -24,6 +24,7 @@ const USAGE: &[u8] = b"usage: reactor run PROJECT\n";
 
 /// Runs the project that the words ask for: shows its first frame, and then answers the script line by line. The
 /// answers to all whole lines that were read are written before the next read.
+#[tactic(auto, using(crate::proofs::Running::refused_always))]
 pub fn reactor_run<H: Shelf, S: Source, K: Sink, L: Ledger>(
     alloc: Global,
     words: &Words,
