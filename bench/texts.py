@@ -1,5 +1,11 @@
-"""Makes a text for the parser: `file SIZE` one `let` of so many bytes, `deep NAME` an expression of nesting 100, `forms` the names."""
-import sys
+"""Texts for the lexer and the parser."""
+
+LINES = [
+    "update event model = List.map (\\item -> item.size + 12) (Dict.values model.items)\n",
+    "-- the label of the window, and its width in chars\n",
+    "label = \"size: \" ++ toString width ++ \"\\n\" {- {- nested -} kept -}\n",
+    "move key state = if key == 'a' then { state | x <- state.x - 1 } else state\n",
+]
 
 ITEMS = [
     "    {0} : Int -> {{ model | size : Int }} -> List Int\n    {0} step model = List.map (\\item -> item.size + step) (Dict.values model.items)\n",
@@ -26,7 +32,18 @@ FORMS = {
 }
 
 
-def file(size):
+def names(size):
+    """Names, operators, comments and texts, of so many bytes."""
+    out, used, turn = [], 0, 0
+    while used + len(LINES[turn % 4]) <= size:
+        out.append(LINES[turn % 4])
+        used += len(LINES[turn % 4])
+        turn += 1
+    return "".join(out) + " " * (size - used)
+
+
+def definitions(size):
+    """One `let` of at most so many bytes."""
     out, used, turn = ["let\n"], 10, 0
     while True:
         item = ITEMS[turn % 4].format(f"name{turn}")
@@ -38,11 +55,10 @@ def file(size):
     return "".join(out) + "in 1\n"
 
 
-if sys.argv[1] == "file":
-    size = int(sys.argv[2])
-    text = file(size)
-    sys.stdout.write(text + " " * (size - len(text)))
-elif sys.argv[1] == "deep":
-    sys.stdout.write("".join(FORMS[sys.argv[2]]))
-else:
-    print(" ".join(FORMS))
+def one_let(size):
+    text = definitions(size)
+    return text + " " * (size - len(text))
+
+
+def deep_forms():
+    return {name: "".join(parts) for name, parts in FORMS.items()}
