@@ -1,10 +1,10 @@
 -- How a block begins.
 use Rattle.std.proofs.Common.{◌≡◌, List, [], ◌∷◌, Some}
 use Rattle.elm_base.specs.declared.token.At.{At}
-use Rattle.pattern_parser.specs.declared.terminal.Terminal.{Terminal}
-use Rattle.pattern_parser.specs.Terminals.{Lexeme}
-use Rattle.pattern_parser.specs.Reader.{Parser, here, item, items, block, with_front}
-use Rattle.pattern_parser.proofs.Turns.{with_one}
+use Rattle.grammar.specs.declared.terminal.Terminal.{Terminal}
+use Rattle.grammar.specs.Terminals.{Lexeme}
+use Rattle.grammar.specs.Reader.{Parser, here, item, items, block, with_front}
+use Rattle.grammar.proofs.Turns.{with_one}
 
 pub block_first : {A : Type 0} (set : List Terminal) (p : Parser A) (at : At) (x : A) (ts us : List Lexeme) → here ts ≡ Some (at, ts) → item at.column p ts ≡ Some (x, us)
     → block set p ts ≡ with_front (x ∷ []) (items set p at.column us)

@@ -1,11 +1,11 @@
 -- What stands in brackets, made at the place of the opening one, before a closing bracket that isn't there.
 use Rattle.std.proofs.Common.{◌≡◌, List, refl, ap, Some, None}
 use Rattle.elm_base.specs.declared.token.At.{At}
-use Rattle.pattern_parser.specs.declared.terminal.Terminal.{Terminal}
-use Rattle.pattern_parser.specs.Terminals.{Lexeme}
-use Rattle.pattern_parser.specs.Reader.{Outcome, Parser, and_then, here, mark, ◌▷◌, ◌◁◌, ◌<$>◌}
-use Rattle.pattern_parser.specs.Reader as reader
-use Rattle.pattern_parser.proofs.Laws.{ok_same}
+use Rattle.grammar.specs.declared.terminal.Terminal.{Terminal}
+use Rattle.grammar.specs.Terminals.{Lexeme}
+use Rattle.grammar.specs.Reader.{Outcome, Parser, and_then, here, mark, ◌▷◌, ◌◁◌, ◌<$>◌}
+use Rattle.grammar.specs.Reader as reader
+use Rattle.grammar.proofs.Laws.{ok_same}
 use Rattle.expr_parser.specs.Places.{placed}
 
 module _ {A : Type 0} (at : At) (p : Parser (At → A)) (end : Terminal) where

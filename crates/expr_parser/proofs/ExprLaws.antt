@@ -7,10 +7,10 @@ use Rattle.elm_base.specs.declared.tree.Set.{Set}
 use Rattle.elm_base.specs.declared.tree.Expr.{Expr}
 use Rattle.elm_base.specs.declared.tree.Expr.TheVariants as e
 use Rattle.elm_base.specs.declared.tree.Declaration.{Declaration}
-use Rattle.pattern_parser.specs.declared.terminal.Terminal.TheVariants as k
-use Rattle.pattern_parser.specs.Terminals.{Lexeme}
-use Rattle.pattern_parser.specs.Rules as rule
-use Rattle.pattern_parser.specs.Rules.{Rule, at_most_nine}
+use Rattle.grammar.specs.declared.terminal.Terminal.TheVariants as k
+use Rattle.grammar.specs.Terminals.{Lexeme}
+use Rattle.grammar.specs.Rules as rule
+use Rattle.grammar.specs.Rules.{Rule, at_most_nine}
 use Rattle.tree_nesting.specs.Nesting.{most, type_nesting, pattern_nesting}
 use Rattle.tree_nesting.specs.ExpressionNesting.{expr_nesting, declaration_nesting, set_nesting}
 use Rattle.pattern_parser.specs.Types.{type_at}
@@ -19,15 +19,15 @@ use Rattle.pattern_parser.specs.Patterns.{cons_at}
 use Rattle.expr_parser.specs.Expressions as g
 use Rattle.expr_parser.specs.Expressions.{DerivesExpr}
 use Rattle.expr_parser.specs.ExprReader as m
-use Rattle.pattern_parser.specs.Reader as reader
-use Rattle.pattern_parser.proofs.Laws.{ok_same}
+use Rattle.grammar.specs.Reader as reader
+use Rattle.grammar.proofs.Laws.{ok_same}
 use Rattle.expr_parser.proofs.ExprReadings.{tree_reads}
 use Rattle.elm_base.specs.declared.memory.Halt.{Halt}
 use Rattle.elm_base.specs.declared.memory.Halt.TheVariants as halt
-use Rattle.pattern_parser.specs.declared.cursor.NoTree.{NoTree}
+use Rattle.grammar.specs.declared.cursor.NoTree.{NoTree}
 use Rattle.tree_nesting.proofs.NestingLaws.{around_each, most_each, map_twice}
 use Rattle.tree_nesting.proofs.ExprNestingLaws.{of_brackets, of_tuple, of_list, of_range, of_fields, of_extend, of_update, of_remove, of_set, of_chain, of_negate, of_call, of_access, of_lambda, of_if, of_guards, of_let, of_case, of_annotation, of_definition, of_pattern_definition}
-use Rattle.pattern_parser.proofs.Shallow.{Shallow, same, when, knowing, Values, seq, by, either, only, at, many, some, after, before, separated, block, linked}
+use Rattle.grammar.proofs.Shallow.{Shallow, same, when, knowing, Values, seq, by, either, only, at, many, some, after, before, separated, block, linked}
 use Rattle.tree_nesting.proofs.Each.{Each}
 use Rattle.pattern_parser.proofs.TypeLaws as type_laws
 use Rattle.pattern_parser.proofs.PatternLaws as pattern_laws

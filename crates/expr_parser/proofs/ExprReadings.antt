@@ -4,26 +4,26 @@ use Rattle.elm_base.specs.declared.token.At.{At}
 use Rattle.elm_base.specs.declared.tree.Operator.{Operator}
 use Rattle.elm_base.specs.declared.tree.Pattern.{Pattern}
 use Rattle.elm_base.specs.declared.tree.Expr.{Expr}
-use Rattle.pattern_parser.specs.declared.terminal.Terminal.{Terminal}
-use Rattle.pattern_parser.specs.declared.terminal.Terminal.TheVariants as k
-use Rattle.pattern_parser.specs.Terminals.{same_terminal}
-use Rattle.pattern_parser.specs.Spelling.{int_value, char_value, text_value, label_of}
-use Rattle.pattern_parser.specs.Rules as rule
-use Rattle.pattern_parser.specs.Rules.{Rule, at_most_nine}
-use Rattle.pattern_parser.specs.Reader.{Parser}
+use Rattle.grammar.specs.declared.terminal.Terminal.{Terminal}
+use Rattle.grammar.specs.declared.terminal.Terminal.TheVariants as k
+use Rattle.grammar.specs.Terminals.{same_terminal}
+use Rattle.grammar.specs.Spelling.{int_value, char_value, text_value, label_of}
+use Rattle.grammar.specs.Rules as rule
+use Rattle.grammar.specs.Rules.{Rule, at_most_nine}
+use Rattle.grammar.specs.Reader.{Parser}
 use Rattle.pattern_parser.specs.PatternReader.{patterns_begin}
 use Rattle.expr_parser.specs.Expressions as g
 use Rattle.expr_parser.specs.Expressions.{is_brackets, ends_in_guards, annotations_stand}
 use Rattle.expr_parser.specs.ExprReader as m
 use Rattle.expr_parser.specs.ExprReader.{atoms_begin, signs_begin, operators_begin, operands_begin, last_forms_begin, expressions_begin, definitions_begin}
-use Rattle.pattern_parser.proofs.Laws.{Reading, seq, by, within, spelled, name, mark, nothing, either, only, at, many}
-use Rattle.pattern_parser.proofs.Columns.{block, block_ends}
-use Rattle.pattern_parser.proofs.Links.{linked, linked_ends}
-use Rattle.pattern_parser.proofs.Ends as ends
-use Rattle.pattern_parser.proofs.Ends.{Ends, Last, behind}
+use Rattle.grammar.proofs.Laws.{Reading, seq, by, within, spelled, name, mark, nothing, either, only, at, many}
+use Rattle.grammar.proofs.Columns.{block, block_ends}
+use Rattle.grammar.proofs.Links.{linked, linked_ends}
+use Rattle.grammar.proofs.Ends as ends
+use Rattle.grammar.proofs.Ends.{Ends, Last, behind}
 use Rattle.expr_parser.proofs.GuardLaws.{Closed, lambda_closed, if_closed, guards_closed, let_closed, case_closed, chain_closed}
-use Rattle.pattern_parser.proofs.Follows as follows
-use Rattle.pattern_parser.proofs.Follows.{Follows, either_two}
+use Rattle.grammar.proofs.Follows as follows
+use Rattle.grammar.proofs.Follows.{Follows, either_two}
 use Rattle.pattern_parser.proofs.TypeReadings as type_readings
 use Rattle.pattern_parser.proofs.TypeReadings.{type_reads}
 use Rattle.pattern_parser.proofs.PatternReadings as pattern_readings

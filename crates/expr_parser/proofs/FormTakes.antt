@@ -1,8 +1,8 @@
 -- What the loops of forms, blocks and chains read takes a token at least.
 use Rattle.std.proofs.Common.{ℕ, true, false}
-use Rattle.pattern_parser.proofs.Turns.{Takes, takes}
-use Rattle.pattern_parser.proofs.Items.{item_takes}
-use Rattle.pattern_parser.specs.Reader.{item}
+use Rattle.grammar.proofs.Turns.{Takes, takes}
+use Rattle.grammar.proofs.Items.{item_takes}
+use Rattle.grammar.specs.Reader.{item}
 use Rattle.expr_parser.specs.ExprReader as m
 use Rattle.expr_parser.proofs.ExprReadings.{tree_reads, operator_reads, parameter_reads, guard_reads, definition_reads, branch_reads, operand_reads}
 

@@ -2,11 +2,11 @@
 use Rattle.std.proofs.Common.{◌≡◌, ◌≢◌, ℕ, zero, suc, ◌<◌, ◌≤◌, Bool, true, false, if◌then◌else◌, List, [], ◌∷◌, ◌++◌, length, refl, sym, ◌∙◌, ap, append_assoc, append-nil, arith, Some, None}
 use Rattle.elm_base.specs.declared.memory.Halt.{Halt}
 use Rattle.elm_base.specs.declared.memory.Halt.TheVariants as halt
-use Rattle.pattern_parser.specs.declared.cursor.NoTree.{NoTree}
-use Rattle.pattern_parser.specs.declared.terminal.Terminal.{Terminal}
-use Rattle.pattern_parser.specs.Terminals.{Lexeme, starts}
-use Rattle.pattern_parser.specs.Reader.{Outcome, Parser, and_then, links, with_front}
-use Rattle.pattern_parser.proofs.Turns.{Takes}
+use Rattle.grammar.specs.declared.cursor.NoTree.{NoTree}
+use Rattle.grammar.specs.declared.terminal.Terminal.{Terminal}
+use Rattle.grammar.specs.Terminals.{Lexeme, starts}
+use Rattle.grammar.specs.Reader.{Outcome, Parser, and_then, links, with_front}
+use Rattle.grammar.proofs.Turns.{Takes}
 
 module _ {A B : Type 0} (between last : List Terminal) (o : Parser A) (p q : Parser B) where
   -- what is read behind one that stands between, by whether the last form follows

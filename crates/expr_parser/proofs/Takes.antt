@@ -1,13 +1,13 @@
 -- What the loops of records, lists and applications read takes a token at least.
 use Rattle.std.proofs.Common.{ℕ, refl}
 use Rattle.std.specs.Prelude.{true, false}
-use Rattle.pattern_parser.specs.declared.terminal.Terminal.TheVariants as k
-use Rattle.pattern_parser.specs.Terminals.{same_terminal}
-use Rattle.pattern_parser.specs.Spelling.{label_of}
-use Rattle.pattern_parser.specs.Reader.{spelled}
-use Rattle.pattern_parser.proofs.Laws as laws
-use Rattle.pattern_parser.proofs.Laws.{seq, by, mark}
-use Rattle.pattern_parser.proofs.Turns.{Takes, takes}
+use Rattle.grammar.specs.declared.terminal.Terminal.TheVariants as k
+use Rattle.grammar.specs.Terminals.{same_terminal}
+use Rattle.grammar.specs.Spelling.{label_of}
+use Rattle.grammar.specs.Reader.{spelled}
+use Rattle.grammar.proofs.Laws as laws
+use Rattle.grammar.proofs.Laws.{seq, by, mark}
+use Rattle.grammar.proofs.Turns.{Takes, takes}
 use Rattle.expr_parser.specs.ExprReader as m
 use Rattle.expr_parser.proofs.ExprReadings.{tree_reads, next_reads, set_reads, put_reads, atom_reads}
 

@@ -2,7 +2,7 @@
 use Rattle.std.specs.Prelude.{List, map}
 use Rattle.elm_base.specs.declared.tree.Operator.{Operator}
 use Rattle.elm_base.specs.declared.tree.Expr.{Expr}
-use Rattle.pattern_parser.specs.Reader.{Parser, ◌<$>◌}
+use Rattle.grammar.specs.Reader.{Parser, ◌<$>◌}
 
 -- the operators and the operands
 abbrev pub apart : List (Operator × Expr) → List Operator × List Expr

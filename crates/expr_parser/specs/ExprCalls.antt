@@ -4,9 +4,9 @@ use Rattle.std.specs.declared.alloc.Global.{Global}
 use denote.Ref.{MutBor}
 use Rattle.elm_base.specs.declared.memory.Halt.{Halt}
 use Rattle.elm_base.specs.declared.tree.Expr.{Expr}
-use Rattle.pattern_parser.specs.declared.cursor.NoTree.{NoTree}
-use Rattle.pattern_parser.specs.Terminals.{Lexeme}
-use Rattle.pattern_parser.specs.Reader.{Reads}
+use Rattle.grammar.specs.declared.cursor.NoTree.{NoTree}
+use Rattle.grammar.specs.Terminals.{Lexeme}
+use Rattle.grammar.specs.Reader.{Reads}
 use Rattle.expr_parser.specs.ExprReader.{tree_at}
 
 pub record ReadsExprs (depth : ℕ) (pre : Global → Bool → ℕ → MutBor (List Lexeme) → Type 0)

@@ -8,12 +8,12 @@ use Rattle.elm_base.specs.declared.tree.Expr.{Expr}
 use Rattle.elm_base.specs.declared.tree.Expr.TheVariants as e
 use Rattle.elm_base.specs.declared.tree.Declaration.{Declaration}
 use Rattle.elm_base.specs.declared.tree.Declaration.TheVariants as d
-use Rattle.pattern_parser.specs.declared.terminal.Terminal.{Terminal}
-use Rattle.pattern_parser.specs.declared.terminal.Terminal.TheVariants as k
-use Rattle.pattern_parser.specs.Rules.{at_most_nine}
-use Rattle.pattern_parser.specs.Spelling.{int_value, char_value, text_value, label_of}
+use Rattle.grammar.specs.declared.terminal.Terminal.{Terminal}
+use Rattle.grammar.specs.declared.terminal.Terminal.TheVariants as k
+use Rattle.grammar.specs.Rules.{at_most_nine}
+use Rattle.grammar.specs.Spelling.{int_value, char_value, text_value, label_of}
 use Rattle.expr_parser.specs.Expressions.{applied, chained, accessed, enclosed, is_brackets, ends_in_guards, annotations_stand}
-use Rattle.pattern_parser.specs.Reader.{Parser, spelled, name, mark, nothing, ◌⊗◌, ◌▷◌, ◌◁◌, ◌<$>◌, choose, choose_if, starts_two, many, only, at, linked, block}
+use Rattle.grammar.specs.Reader.{Parser, spelled, name, mark, nothing, ◌⊗◌, ◌▷◌, ◌◁◌, ◌<$>◌, choose, choose_if, starts_two, many, only, at, linked, block}
 use Rattle.pattern_parser.specs.TypeReader.{type_at}
 use Rattle.pattern_parser.specs.PatternReader as patterns
 use Rattle.pattern_parser.specs.PatternReader.{cons_at, patterns_begin}

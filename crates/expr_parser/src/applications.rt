@@ -1,8 +1,8 @@
 //! Atoms with accesses, applications, and operands.
 ghost use Rattle.std.specs.Prelude.{◌≡◌, true, false, [], ◌∷◌, IfOk};
-ghost use Rattle.pattern_parser.specs.declared.terminal.Terminal.TheVariants as k;
-ghost use Rattle.pattern_parser.specs.Reader.{Reads, choose, many, spelled};
-ghost use Rattle.pattern_parser.specs.Spelling.{label_of};
+ghost use Rattle.grammar.specs.declared.terminal.Terminal.TheVariants as k;
+ghost use Rattle.grammar.specs.Reader.{Reads, choose, many, spelled};
+ghost use Rattle.grammar.specs.Spelling.{label_of};
 ghost use Rattle.expr_parser.specs.Expressions as grammar;
 ghost use Rattle.expr_parser.specs.ExprReader as spec;
 ghost use Rattle.expr_parser.specs.ExprCalls.{ReadsExprs};

@@ -1,5 +1,5 @@
 //! Atoms without parts.
-ghost use Rattle.pattern_parser.specs.Reader.{Reads};
+ghost use Rattle.grammar.specs.Reader.{Reads};
 ghost use Rattle.expr_parser.specs.ExprReader as spec;
 
 use crate::operators::any_lower;

@@ -1,7 +1,7 @@
 //! What the parts of expressions begin with.
 ghost use Rattle.std.specs.Prelude.{◌≡◌, [], ◌∷◌};
-ghost use Rattle.pattern_parser.specs.declared.terminal.Terminal.TheVariants as k;
-ghost use Rattle.pattern_parser.specs.Terminals.{starts};
+ghost use Rattle.grammar.specs.declared.terminal.Terminal.TheVariants as k;
+ghost use Rattle.grammar.specs.Terminals.{starts};
 ghost use Rattle.expr_parser.specs.ExprReader as spec;
 
 use pattern_parser::{Cursor, Terminal};

@@ -1,6 +1,6 @@
 //! Definitions of a `let` and branches of a `case`, each in one column.
 ghost use Rattle.std.specs.Prelude.{◌≡◌, true, false, [], ◌∷◌, List, ℕ};
-ghost use Rattle.pattern_parser.specs.Reader.{Reads, begins, block, item, with_front};
+ghost use Rattle.grammar.specs.Reader.{Reads, begins, block, item, with_front};
 ghost use Rattle.expr_parser.specs.ExprReader as spec;
 ghost use Rattle.expr_parser.specs.ExprCalls.{ReadsExprs};
 ghost use Rattle.expr_parser.specs.Places.{placed_round};

@@ -1,6 +1,6 @@
 //! Brackets: operators and tuple makers in brackets, `()`, an expression in brackets, and tuples.
 ghost use Rattle.std.specs.Prelude.{◌≡◌, ◌≤◌, true, false, [], ◌∷◌, IfOk};
-ghost use Rattle.pattern_parser.specs.Reader.{Reads, with_front};
+ghost use Rattle.grammar.specs.Reader.{Reads, with_front};
 ghost use Rattle.expr_parser.specs.Expressions as grammar;
 ghost use Rattle.expr_parser.specs.ExprReader as spec;
 ghost use Rattle.expr_parser.specs.ExprCalls.{ReadsExprs};

@@ -2,7 +2,7 @@
 ghost use Rattle.std.specs.Prelude.{◌≡◌, true, false, [], ◌∷◌, List, map, IfOk};
 ghost use Rattle.elm_base.specs.declared.tree.Operator.{Operator};
 ghost use Rattle.elm_base.specs.declared.tree.Expr.{Expr};
-ghost use Rattle.pattern_parser.specs.Reader.{Reads};
+ghost use Rattle.grammar.specs.Reader.{Reads};
 ghost use Rattle.expr_parser.specs.Expressions as grammar;
 ghost use Rattle.expr_parser.specs.ExprReader as spec;
 ghost use Rattle.expr_parser.specs.ExprCalls.{ReadsExprs};

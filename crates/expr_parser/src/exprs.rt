@@ -1,6 +1,6 @@
 //! The parser of expressions over a function for the level below.
 ghost use Rattle.std.specs.Prelude.{true, false};
-ghost use Rattle.pattern_parser.specs.Reader.{Reads};
+ghost use Rattle.grammar.specs.Reader.{Reads};
 ghost use Rattle.expr_parser.specs.ExprReader as spec;
 ghost use Rattle.expr_parser.specs.ExprCalls.{ReadsExprs};
 

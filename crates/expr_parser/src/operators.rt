@@ -1,5 +1,5 @@
 //! Operators.
-ghost use Rattle.pattern_parser.specs.Reader.{Reads};
+ghost use Rattle.grammar.specs.Reader.{Reads};
 ghost use Rattle.expr_parser.specs.ExprReader as spec;
 
 use crate::begins::begins_sign;

@@ -1,17 +1,17 @@
 -- The parser of patterns reads their grammar.
 use Rattle.std.proofs.Common.{ℕ, zero, suc, true, false, List, [], ◌∷◌, refl}
 use Rattle.elm_base.specs.declared.tree.Pattern.{Pattern}
-use Rattle.pattern_parser.specs.declared.terminal.Terminal.{Terminal}
-use Rattle.pattern_parser.specs.declared.terminal.Terminal.TheVariants as k
-use Rattle.pattern_parser.specs.Terminals.{same_terminal}
-use Rattle.pattern_parser.specs.Spelling.{int_value, char_value, text_value}
-use Rattle.pattern_parser.specs.Rules as rule
-use Rattle.pattern_parser.specs.Rules.{Rule, at_most_nine}
-use Rattle.pattern_parser.specs.Reader.{Parser}
+use Rattle.grammar.specs.declared.terminal.Terminal.{Terminal}
+use Rattle.grammar.specs.declared.terminal.Terminal.TheVariants as k
+use Rattle.grammar.specs.Terminals.{same_terminal}
+use Rattle.grammar.specs.Spelling.{int_value, char_value, text_value}
+use Rattle.grammar.specs.Rules as rule
+use Rattle.grammar.specs.Rules.{Rule, at_most_nine}
+use Rattle.grammar.specs.Reader.{Parser}
 use Rattle.pattern_parser.specs.Patterns as g
 use Rattle.pattern_parser.specs.PatternReader as m
 use Rattle.pattern_parser.specs.PatternReader.{patterns_begin}
-use Rattle.pattern_parser.proofs.Laws.{Reading, seq, by, within, spelled, name, mark, nothing, either, optional, only, at, many, spot}
+use Rattle.grammar.proofs.Laws.{Reading, seq, by, within, spelled, name, mark, nothing, either, optional, only, at, many, spot}
 
 pub anything_reads : Reading g.anything m.anything false (k.Underscore ∷ []) []
 unfolding m.anything same_terminal

@@ -5,19 +5,19 @@ use Rattle.elm_base.specs.declared.memory.Halt.TheVariants as halt
 use Rattle.elm_base.specs.declared.token.At.{At}
 use Rattle.elm_base.specs.declared.tree.Spot.{Spot}
 use Rattle.elm_base.specs.declared.tree.TypeTree.{TypeTree}
-use Rattle.pattern_parser.specs.declared.cursor.NoTree.{NoTree}
-use Rattle.pattern_parser.specs.declared.terminal.Terminal.TheVariants as k
-use Rattle.pattern_parser.specs.Terminals.{Lexeme}
-use Rattle.pattern_parser.specs.Rules as rule
-use Rattle.pattern_parser.specs.Rules.{Rule, at_most_nine}
-use Rattle.pattern_parser.specs.Reader as reader
+use Rattle.grammar.specs.declared.cursor.NoTree.{NoTree}
+use Rattle.grammar.specs.declared.terminal.Terminal.TheVariants as k
+use Rattle.grammar.specs.Terminals.{Lexeme}
+use Rattle.grammar.specs.Rules as rule
+use Rattle.grammar.specs.Rules.{Rule, at_most_nine}
+use Rattle.grammar.specs.Reader as reader
 use Rattle.tree_nesting.specs.Nesting.{type_nesting}
 use Rattle.pattern_parser.specs.Types as g
 use Rattle.pattern_parser.specs.Types.{DerivesType}
 use Rattle.pattern_parser.specs.TypeReader as m
-use Rattle.pattern_parser.proofs.Laws.{ok_same}
+use Rattle.grammar.proofs.Laws.{ok_same}
 use Rattle.tree_nesting.proofs.NestingLaws.{of_named, of_arrow, of_brackets, of_tuple, of_fields, around_each}
-use Rattle.pattern_parser.proofs.Shallow.{Shallow, same, when, seq, by, either, only, at, many, after, before, separated}
+use Rattle.grammar.proofs.Shallow.{Shallow, same, when, seq, by, either, only, at, many, after, before, separated}
 use Rattle.tree_nesting.proofs.Each.{Each}
 use Rattle.pattern_parser.proofs.TypeReadings.{type_reads}
 

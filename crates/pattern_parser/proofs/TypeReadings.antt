@@ -1,16 +1,16 @@
 -- The parser of types reads their grammar.
 use Rattle.std.proofs.Common.{ℕ, zero, suc, true, false, List, [], ◌∷◌, refl, None}
 use Rattle.elm_base.specs.declared.tree.TypeTree.{TypeTree}
-use Rattle.pattern_parser.specs.declared.terminal.Terminal.{Terminal}
-use Rattle.pattern_parser.specs.declared.terminal.Terminal.TheVariants as k
-use Rattle.pattern_parser.specs.Terminals.{same_terminal}
-use Rattle.pattern_parser.specs.Rules as rule
-use Rattle.pattern_parser.specs.Rules.{Rule, at_most_nine}
-use Rattle.pattern_parser.specs.Reader.{Parser}
+use Rattle.grammar.specs.declared.terminal.Terminal.{Terminal}
+use Rattle.grammar.specs.declared.terminal.Terminal.TheVariants as k
+use Rattle.grammar.specs.Terminals.{same_terminal}
+use Rattle.grammar.specs.Rules as rule
+use Rattle.grammar.specs.Rules.{Rule, at_most_nine}
+use Rattle.grammar.specs.Reader.{Parser}
 use Rattle.pattern_parser.specs.Types as g
 use Rattle.pattern_parser.specs.TypeReader as m
 use Rattle.pattern_parser.specs.TypeReader.{arguments_begin}
-use Rattle.pattern_parser.proofs.Laws.{Reading, seq, by, within, name, mark, nothing, either, optional, only, at, many, spot}
+use Rattle.grammar.proofs.Laws.{Reading, seq, by, within, name, mark, nothing, either, optional, only, at, many, spot}
 
 pub variable_reads : Reading g.variable m.variable false (k.Lower ∷ []) []
 unfolding m.variable same_terminal

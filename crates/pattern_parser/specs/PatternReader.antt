@@ -3,12 +3,12 @@ use Rattle.std.specs.Prelude.{ℕ, zero, suc, List, [], ◌∷◌, Option, None}
 use Rattle.elm_base.specs.declared.tree.Spot.{Spot}
 use Rattle.elm_base.specs.declared.tree.Pattern.{Pattern}
 use Rattle.elm_base.specs.declared.tree.Pattern.TheVariants as p
-use Rattle.pattern_parser.specs.declared.terminal.Terminal.{Terminal}
-use Rattle.pattern_parser.specs.declared.terminal.Terminal.TheVariants as k
-use Rattle.pattern_parser.specs.Rules.{at_most_nine}
-use Rattle.pattern_parser.specs.Spelling.{int_value, char_value, text_value}
+use Rattle.grammar.specs.declared.terminal.Terminal.{Terminal}
+use Rattle.grammar.specs.declared.terminal.Terminal.TheVariants as k
+use Rattle.grammar.specs.Rules.{at_most_nine}
+use Rattle.grammar.specs.Spelling.{int_value, char_value, text_value}
 use Rattle.pattern_parser.specs.Patterns.{enclosed, consed, named}
-use Rattle.pattern_parser.specs.Reader.{Parser, spelled, name, mark, nothing, ◌⊗◌, ◌▷◌, ◌◁◌, ◌<$>◌, choose, optional, many, only, at, spot}
+use Rattle.grammar.specs.Reader.{Parser, spelled, name, mark, nothing, ◌⊗◌, ◌▷◌, ◌◁◌, ◌<$>◌, choose, optional, many, only, at, spot}
 
 -- what a pattern begins with, as well as a part of one
 abbrev pub patterns_begin : List Terminal

@@ -2,16 +2,15 @@
 ghost use Rattle.std.specs.Prelude.{◌≡◌, ◌≢◌, ◌≤◌, [], ◌∷◌, List, Option, Some, None, map, IfOk, IfErr, MatchResult};
 ghost use Rattle.elm_base.specs.declared.memory.Halt.TheVariants as halt;
 ghost use Rattle.elm_base.specs.declared.tree.Pattern.{Pattern};
-ghost use Rattle.pattern_parser.specs.Terminals.{Lexeme, lexeme, starts};
-ghost use Rattle.pattern_parser.specs.Reader.{Reads, with_front};
+ghost use Rattle.grammar.specs.Terminals.{Lexeme, lexeme, starts};
+ghost use Rattle.grammar.specs.Reader.{Reads, with_front};
 ghost use Rattle.tree_nesting.specs.Nesting.{max_nesting, pattern_nesting};
 ghost use Rattle.pattern_parser.specs.Patterns as grammar;
 ghost use Rattle.pattern_parser.specs.Patterns.{DerivesPattern};
 ghost use Rattle.pattern_parser.specs.PatternReader as spec;
 ghost use Rattle.pattern_parser.specs.PatternCalls.{ReadsPatterns};
 
-use crate::cursor::{Cursor, MOST_PARTS, NoTree};
-use crate::terminal::Terminal;
+use grammar::{Cursor, MOST_PARTS, NoTree, Terminal};
 use elm_base::{At, Halt, Pattern, Spot, Token};
 use sqlite_items::{Boxed, Items};
 use std::alloc::{AllocError, Global};

@@ -2,16 +2,15 @@
 ghost use Rattle.std.specs.Prelude.{◌≡◌, ◌≢◌, ◌≤◌, [], ◌∷◌, List, Option, Some, None, map, IfOk, IfErr, MatchResult};
 ghost use Rattle.elm_base.specs.declared.memory.Halt.TheVariants as halt;
 ghost use Rattle.elm_base.specs.declared.tree.TypeTree.{TypeTree};
-ghost use Rattle.pattern_parser.specs.Terminals.{Lexeme, lexeme, starts};
-ghost use Rattle.pattern_parser.specs.Reader.{Reads, with_front};
+ghost use Rattle.grammar.specs.Terminals.{Lexeme, lexeme, starts};
+ghost use Rattle.grammar.specs.Reader.{Reads, with_front};
 ghost use Rattle.tree_nesting.specs.Nesting.{max_nesting, type_nesting};
 ghost use Rattle.pattern_parser.specs.Types as grammar;
 ghost use Rattle.pattern_parser.specs.Types.{DerivesType};
 ghost use Rattle.pattern_parser.specs.TypeReader as spec;
 ghost use Rattle.pattern_parser.specs.TypeCalls.{ReadsTypes};
 
-use crate::cursor::{Cursor, MOST_PARTS, NoTree};
-use crate::terminal::Terminal;
+use grammar::{Cursor, MOST_PARTS, NoTree, Terminal};
 use elm_base::{At, Halt, Spot, Token, TypeTree};
 use sqlite_items::{Boxed, Items};
 use std::alloc::{AllocError, Global};

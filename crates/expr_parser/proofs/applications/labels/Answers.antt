@@ -1,7 +1,7 @@
 use Rattle.std.proofs.Common.{refl, sym}
 use Rattle.std.proofs.lemmas.Result.{err_from_is_err_and}
-use Rattle.pattern_parser.specs.Reader.{many}
-use Rattle.pattern_parser.proofs.Turns.{loop_turn, loop_err, loop_ends, with_none}
+use Rattle.grammar.specs.Reader.{many}
+use Rattle.grammar.proofs.Turns.{loop_turn, loop_err, loop_ends, with_none}
 use Rattle.expr_parser.proofs.Takes.{access_takes}
 use Rattle.expr_parser.proofs.applications.labels.Goals as goal
 

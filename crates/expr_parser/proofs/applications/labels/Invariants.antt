@@ -1,7 +1,7 @@
 use Rattle.std.proofs.Common.{◌≡◌, [], ◌∷◌, length}
-use Rattle.pattern_parser.specs.declared.terminal.Terminal.TheVariants as k
-use Rattle.pattern_parser.specs.Spelling.{label_of}
-use Rattle.pattern_parser.specs.Reader.{with_front, many, spelled}
+use Rattle.grammar.specs.declared.terminal.Terminal.TheVariants as k
+use Rattle.grammar.specs.Spelling.{label_of}
+use Rattle.grammar.specs.Reader.{with_front, many, spelled}
 use Rattle.expr_parser.proofs.applications.labels.Given as goal
 
 -- what is left to read goes behind what was found

@@ -1,5 +1,5 @@
 use Rattle.std.proofs.Common.{◌≡◌, true, false, ap, arith}
-use Rattle.pattern_parser.proofs.Depth.{deeper}
+use Rattle.grammar.proofs.Depth.{deeper}
 use Rattle.expr_parser.specs.ExprReader.{tree_at}
 use Rattle.expr_parser.proofs.chains.+tree_at.Goals as goal
 

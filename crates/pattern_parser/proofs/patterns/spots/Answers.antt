@@ -1,12 +1,12 @@
 use Rattle.std.proofs.Common.{[], ◌∷◌, refl, sym, rules, arith}
 use Rattle.std.proofs.lemmas.Grind.{common_steps}
 use Rattle.std.proofs.lemmas.Result.{err_from_is_err_and}
-use Rattle.pattern_parser.specs.declared.terminal.Terminal.TheVariants as k
+use Rattle.grammar.specs.declared.terminal.Terminal.TheVariants as k
 use Rattle.pattern_parser.specs.PatternReader as m
 use Rattle.pattern_parser.specs.PatternReader.{cons_at, patterns, parts, spots}
-use Rattle.pattern_parser.specs.Reader as reader
-use Rattle.pattern_parser.specs.Reader.{with_front, many}
-use Rattle.pattern_parser.proofs.Turns.{takes, loop_turn, loop_err, loop_ends, with_one}
+use Rattle.grammar.specs.Reader as reader
+use Rattle.grammar.specs.Reader.{with_front, many}
+use Rattle.grammar.proofs.Turns.{takes, loop_turn, loop_err, loop_ends, with_one}
 use Rattle.pattern_parser.proofs.PatternReadings.{next_spot_reads}
 use Rattle.pattern_parser.proofs.patterns.spots.Goals as goal
 

@@ -1,6 +1,6 @@
 use Rattle.std.proofs.Common.{true, false, arith}
 use Rattle.std.proofs.lemmas.Result.{err_from_is_err_and}
-use Rattle.pattern_parser.proofs.Items.{item_end, item_err}
+use Rattle.grammar.proofs.Items.{item_end, item_err}
 use Rattle.expr_parser.specs.ExprReader as m
 use Rattle.expr_parser.proofs.ExprReadings.{tree_reads, branch_reads}
 use Rattle.expr_parser.proofs.exprs.Exprs.branch_item.Goals as goal

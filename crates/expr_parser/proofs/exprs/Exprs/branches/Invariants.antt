@@ -1,5 +1,5 @@
 use Rattle.std.proofs.Common.{◌≡◌, true, false, length}
-use Rattle.pattern_parser.specs.Reader.{with_front, block, items}
+use Rattle.grammar.specs.Reader.{with_front, block, items}
 use Rattle.pattern_parser.specs.PatternReader.{patterns_begin}
 use Rattle.expr_parser.specs.ExprReader as m
 use Rattle.expr_parser.proofs.exprs.Exprs.branches.Given as goal

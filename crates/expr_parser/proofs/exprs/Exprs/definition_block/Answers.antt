@@ -1,8 +1,8 @@
 use Rattle.std.proofs.Common.{true, false, refl, sym, rules, arith}
 use Rattle.std.proofs.lemmas.Grind.{common_steps}
 use Rattle.std.proofs.lemmas.Result.{err_from_is_err_and}
-use Rattle.pattern_parser.specs.Reader.{items, block}
-use Rattle.pattern_parser.proofs.Turns.{loop_turn, loop_err, loop_ends}
+use Rattle.grammar.specs.Reader.{items, block}
+use Rattle.grammar.proofs.Turns.{loop_turn, loop_err, loop_ends}
 use Rattle.expr_parser.specs.ExprReader as m
 use Rattle.expr_parser.proofs.BlockTurns.{block_first}
 use Rattle.expr_parser.proofs.FormTakes.{definition_takes}

@@ -1,7 +1,7 @@
 use Rattle.std.proofs.Common.{true, false, [], ◌∷◌, ◌++◌, refl, sym}
 use Rattle.std.proofs.lemmas.Result.{err_from_is_err_and}
-use Rattle.pattern_parser.specs.Reader.{linked}
-use Rattle.pattern_parser.proofs.Turns.{with_none}
+use Rattle.grammar.specs.Reader.{linked}
+use Rattle.grammar.proofs.Turns.{with_none}
 use Rattle.expr_parser.specs.ExprReader as m
 use Rattle.expr_parser.specs.ExprReader.{links}
 use Rattle.expr_parser.proofs.FormTakes.{operator_takes, operand_takes}

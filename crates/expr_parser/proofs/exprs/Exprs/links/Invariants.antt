@@ -1,7 +1,7 @@
 use Rattle.std.proofs.Common.{◌≡◌, true, false, List, length}
 use Rattle.elm_base.specs.declared.tree.Operator.{Operator}
 use Rattle.elm_base.specs.declared.tree.Expr.{Expr}
-use Rattle.pattern_parser.specs.Reader.{with_front, linked}
+use Rattle.grammar.specs.Reader.{with_front, linked}
 use Rattle.expr_parser.specs.Chains.{apart}
 use Rattle.expr_parser.specs.ExprReader as m
 use Rattle.expr_parser.proofs.exprs.Exprs.links.Given as goal

@@ -1,6 +1,6 @@
 use Rattle.std.proofs.Common.{true, false}
 use Rattle.std.proofs.lemmas.Result.{err_from_is_err_and}
-use Rattle.pattern_parser.specs.declared.terminal.Terminal.TheVariants as k
+use Rattle.grammar.specs.declared.terminal.Terminal.TheVariants as k
 use Rattle.expr_parser.specs.ExprReader as m
 use Rattle.expr_parser.specs.ExprReader.{list}
 use Rattle.expr_parser.proofs.Closing.{unclosed}

@@ -1,5 +1,5 @@
 use Rattle.std.proofs.Common.{true, false}
-use Rattle.pattern_parser.proofs.Turns.{with_none}
+use Rattle.grammar.proofs.Turns.{with_none}
 use Rattle.expr_parser.specs.ExprReader as m
 use Rattle.expr_parser.proofs.exprs.Exprs.parameters.Goals as goal
 

@@ -1,9 +1,9 @@
 use Rattle.std.proofs.Common.{true, false, [], ◌∷◌, refl, sym, rules, arith}
 use Rattle.std.proofs.lemmas.Grind.{common_steps}
 use Rattle.std.proofs.lemmas.Result.{err_from_is_err_and}
-use Rattle.pattern_parser.specs.declared.terminal.Terminal.TheVariants as k
-use Rattle.pattern_parser.specs.Reader.{many}
-use Rattle.pattern_parser.proofs.Turns.{loop_turn, loop_err, loop_ends, with_one}
+use Rattle.grammar.specs.declared.terminal.Terminal.TheVariants as k
+use Rattle.grammar.specs.Reader.{many}
+use Rattle.grammar.proofs.Turns.{loop_turn, loop_err, loop_ends, with_one}
 use Rattle.expr_parser.specs.ExprReader as m
 use Rattle.expr_parser.specs.ExprReader.{more, sets, puts}
 use Rattle.expr_parser.proofs.Takes.{next_set_takes}

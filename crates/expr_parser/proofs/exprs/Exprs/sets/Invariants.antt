@@ -1,6 +1,6 @@
 use Rattle.std.proofs.Common.{◌≡◌, true, false, [], ◌∷◌, length}
-use Rattle.pattern_parser.specs.declared.terminal.Terminal.TheVariants as k
-use Rattle.pattern_parser.specs.Reader.{with_front, many}
+use Rattle.grammar.specs.declared.terminal.Terminal.TheVariants as k
+use Rattle.grammar.specs.Reader.{with_front, many}
 use Rattle.expr_parser.specs.ExprReader as m
 use Rattle.expr_parser.specs.ExprReader.{atoms_begin}
 use Rattle.expr_parser.proofs.exprs.Exprs.sets.Given as goal

@@ -1,8 +1,8 @@
 use Rattle.std.proofs.Common.{refl, sym}
 use Rattle.std.proofs.lemmas.Result.{err_from_is_err_and}
 use Rattle.pattern_parser.specs.PatternReader.{parts}
-use Rattle.pattern_parser.specs.Reader.{many}
-use Rattle.pattern_parser.proofs.Turns.{takes, loop_turn, loop_err, loop_ends, with_none}
+use Rattle.grammar.specs.Reader.{many}
+use Rattle.grammar.proofs.Turns.{takes, loop_turn, loop_err, loop_ends, with_none}
 use Rattle.pattern_parser.proofs.PatternReadings.{cons_reads, part_reads}
 use Rattle.pattern_parser.proofs.patterns.Patterns.parts.Goals as goal
 

@@ -1,5 +1,5 @@
 use Rattle.std.proofs.Common.{◌≡◌, length}
-use Rattle.pattern_parser.specs.Reader.{with_front, many}
+use Rattle.grammar.specs.Reader.{with_front, many}
 use Rattle.pattern_parser.specs.PatternReader as m
 use Rattle.pattern_parser.specs.PatternReader.{cons_at, patterns_begin}
 use Rattle.pattern_parser.proofs.patterns.Patterns.parts.Given as goal

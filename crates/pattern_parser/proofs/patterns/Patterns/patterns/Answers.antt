@@ -1,11 +1,11 @@
 use Rattle.std.proofs.Common.{[], ◌∷◌, refl, sym, rules, arith}
 use Rattle.std.proofs.lemmas.Grind.{common_steps}
 use Rattle.std.proofs.lemmas.Result.{err_from_is_err_and}
-use Rattle.pattern_parser.specs.declared.terminal.Terminal.TheVariants as k
+use Rattle.grammar.specs.declared.terminal.Terminal.TheVariants as k
 use Rattle.pattern_parser.specs.PatternReader as m
 use Rattle.pattern_parser.specs.PatternReader.{cons_at, patterns, parts, spots}
-use Rattle.pattern_parser.specs.Reader.{many}
-use Rattle.pattern_parser.proofs.Turns.{takes, loop_turn, loop_err, loop_ends, with_one}
+use Rattle.grammar.specs.Reader.{many}
+use Rattle.grammar.proofs.Turns.{takes, loop_turn, loop_err, loop_ends, with_one}
 use Rattle.pattern_parser.proofs.PatternReadings.{cons_reads, next_reads}
 use Rattle.pattern_parser.proofs.patterns.Patterns.patterns.Goals as goal
 

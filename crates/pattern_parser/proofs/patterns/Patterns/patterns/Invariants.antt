@@ -1,6 +1,6 @@
 use Rattle.std.proofs.Common.{◌≡◌, [], ◌∷◌, length}
-use Rattle.pattern_parser.specs.declared.terminal.Terminal.TheVariants as k
-use Rattle.pattern_parser.specs.Reader.{with_front, many}
+use Rattle.grammar.specs.declared.terminal.Terminal.TheVariants as k
+use Rattle.grammar.specs.Reader.{with_front, many}
 use Rattle.pattern_parser.specs.PatternReader as m
 use Rattle.pattern_parser.specs.PatternReader.{cons_at, patterns_begin}
 use Rattle.pattern_parser.proofs.patterns.Patterns.patterns.Given as goal

@@ -1,8 +1,8 @@
 use Rattle.std.proofs.Common.{refl, sym}
 use Rattle.std.proofs.lemmas.Result.{err_from_is_err_and}
 use Rattle.pattern_parser.specs.TypeReader.{arguments}
-use Rattle.pattern_parser.specs.Reader.{many}
-use Rattle.pattern_parser.proofs.Turns.{takes, loop_turn, loop_err, loop_ends, with_none}
+use Rattle.grammar.specs.Reader.{many}
+use Rattle.grammar.proofs.Turns.{takes, loop_turn, loop_err, loop_ends, with_none}
 use Rattle.pattern_parser.proofs.TypeReadings.{type_reads, argument_reads}
 use Rattle.pattern_parser.proofs.types.Types.arguments.Goals as goal
 

@@ -1,5 +1,5 @@
 use Rattle.std.proofs.Common.{◌≡◌, length}
-use Rattle.pattern_parser.specs.Reader.{with_front, many}
+use Rattle.grammar.specs.Reader.{with_front, many}
 use Rattle.pattern_parser.specs.TypeReader as m
 use Rattle.pattern_parser.specs.TypeReader.{type_at, arguments_begin}
 use Rattle.pattern_parser.proofs.types.Types.arguments.Given as goal

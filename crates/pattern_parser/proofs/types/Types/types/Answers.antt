@@ -1,11 +1,11 @@
 use Rattle.std.proofs.Common.{[], ◌∷◌, refl, sym, rules, arith}
 use Rattle.std.proofs.lemmas.Grind.{common_steps}
 use Rattle.std.proofs.lemmas.Result.{err_from_is_err_and}
-use Rattle.pattern_parser.specs.declared.terminal.Terminal.TheVariants as k
+use Rattle.grammar.specs.declared.terminal.Terminal.TheVariants as k
 use Rattle.pattern_parser.specs.TypeReader as m
 use Rattle.pattern_parser.specs.TypeReader.{type_at, types, more_fields, arguments}
-use Rattle.pattern_parser.specs.Reader.{many}
-use Rattle.pattern_parser.proofs.Turns.{takes, loop_turn, loop_err, loop_ends, with_one}
+use Rattle.grammar.specs.Reader.{many}
+use Rattle.grammar.proofs.Turns.{takes, loop_turn, loop_err, loop_ends, with_one}
 use Rattle.pattern_parser.proofs.TypeReadings.{type_reads, next_reads}
 use Rattle.pattern_parser.proofs.types.Types.types.Goals as goal
 

@@ -1,0 +1,4 @@
+pub mod Terminals
+pub mod Rules
+pub mod Reader
+pub mod Spelling

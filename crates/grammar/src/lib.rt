@@ -1,0 +1,10 @@
+//! What a grammar is put together of: tokens as terminals, the rules of a grammar and the parsers that read them, with their
+//! laws (specs/ and proofs/), and the tokens that are left to a parser.
+#![tactic(auto)]
+
+mod cursor;
+mod spelling;
+mod terminal;
+
+pub use cursor::{Cursor, MOST_PARTS, NoTree};
+pub use terminal::Terminal;
