@@ -7,8 +7,8 @@ use Rattle.elm_base.specs.declared.tree.Set.{Set}
 use Rattle.elm_base.specs.declared.tree.Expr.{Expr}
 use Rattle.elm_base.specs.declared.tree.Expr.TheVariants as e
 use Rattle.elm_base.specs.declared.tree.Declaration.{Declaration}
+use Rattle.elm_base.specs.Lexemes.{Lexeme}
 use Rattle.grammar.specs.declared.terminal.Terminal.TheVariants as k
-use Rattle.grammar.specs.Terminals.{Lexeme}
 use Rattle.grammar.specs.Rules as rule
 use Rattle.grammar.specs.Rules.{Rule, at_most_nine}
 use Rattle.tree_nesting.specs.Nesting.{most, type_nesting, pattern_nesting}

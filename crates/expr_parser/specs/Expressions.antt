@@ -12,8 +12,8 @@ use Rattle.elm_base.specs.declared.tree.Declaration.TheOpen as open_
 use Rattle.elm_base.specs.declared.tree.Declaration.TheFolds.{fold-Expr}
 use Rattle.elm_base.specs.declared.tree.Declaration.{Declaration, out-Declaration}
 use Rattle.elm_base.specs.declared.tree.Declaration.TheVariants as d
+use Rattle.elm_base.specs.Lexemes.{Lexeme}
 use Rattle.grammar.specs.declared.terminal.Terminal.TheVariants as k
-use Rattle.grammar.specs.Terminals.{Lexeme}
 use Rattle.grammar.specs.Spelling.{int_value, char_value, text_value, label_of}
 use Rattle.grammar.specs.Rules.{Rule, spelled, name, mark, nothing, ◌⊗◌, ◌▷◌, ◌◁◌, ◌∣◌, ◌<$>◌, many, some, separated, only, at_most_nine, at, linked, block}
 use Rattle.pattern_parser.specs.Types.{type_at}
