@@ -5,6 +5,8 @@
 mod cursor;
 mod spelling;
 mod terminal;
+mod values;
 
 pub use cursor::{Cursor, MOST_PARTS, NoTree};
 pub use terminal::Terminal;
+pub use values::{boxed_pair, paired, terminated, verified};
