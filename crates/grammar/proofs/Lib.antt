@@ -10,3 +10,4 @@ pub mod Choice
 pub mod Follows
 pub mod Items
 pub mod Cut
+pub mod Wholes

@@ -7,7 +7,7 @@ use Rattle.grammar.specs.declared.terminal.Terminal.{Terminal}
 use Rattle.grammar.specs.declared.terminal.Terminal.TheVariants as k
 use Rattle.grammar.specs.Rules.{at_most_nine}
 use Rattle.pattern_parser.specs.Types.{enclosed, arrow}
-use Rattle.grammar.specs.Reader.{Parser, name, mark, nothing, ◌⊗◌, ◌▷◌, ◌◁◌, ◌<$>◌, choose, optional, many, only, at, spot}
+use Rattle.grammar.specs.Reader.{Outcome, Parser, and_then, name, mark, nothing, ◌⊗◌, ◌▷◌, ◌◁◌, ◌<$>◌, choose, optional, many, only, at, spot}
 
 -- what an argument begins with, and so a type
 abbrev pub arguments_begin : List Terminal
@@ -18,6 +18,10 @@ variable = (λ x. t.Variable x.0 x.1) <$> at (name k.Lower)
 
 unfoldable pub bare : Parser TypeTree
 bare = (λ x. t.Named x.0 x.1 []) <$> at (name k.Upper)
+
+-- what is read behind a name, of that name
+abbrev pub named_by : {A : Type 0} → Spot → Outcome (Spot → A) → Outcome A
+named_by name r = and_then r (λ made us. Some (made name, us))
 
 module _ (whole : Parser TypeTree) where
   unfoldable pub next : Parser TypeTree

@@ -12,7 +12,7 @@ ghost use Rattle.pattern_parser.specs.PatternReader as spec;
 ghost use Rattle.pattern_parser.specs.PatternCalls.{ReadsPatterns};
 
 use elm_base::{At, Halt, Pattern, Spot, Token};
-use grammar::{Cursor, MOST_PARTS, NoTree, Terminal};
+use grammar::{Cursor, MOST_PARTS, NoTree, Terminal, boxed_pair, paired, terminated, verified};
 use sqlite_items::{Boxed, Items};
 use std::alloc::{AllocError, Global};
 use tree_nesting::{MOST_NESTING, pattern_nests_within};
@@ -120,8 +120,7 @@ pub fn labels(alloc: Global, tokens: &mut Cursor<'_>) -> Result<Pattern, Halt<No
 {
     let at = tokens.here()?;
     tokens.expect(Terminal::LeftBrace)?;
-    let labels = spots(alloc, tokens)?;
-    tokens.expect(Terminal::RightBrace)?;
+    let labels = terminated(spots(alloc, tokens)?, tokens, Terminal::RightBrace)?;
     Ok(Pattern::Fields { at, labels })
 }
 
@@ -182,8 +181,7 @@ fn consed(
     match tail {
         None => Ok(head),
         Some(tail) => {
-            let head = Boxed::new(alloc, head)?;
-            let tail = Boxed::new(alloc, tail)?;
+            let (head, tail) = boxed_pair(alloc, head, tail)?;
             Ok(Pattern::Cons { at, head, tail })
         }
     }
@@ -292,8 +290,7 @@ impl<F: Fn(Global, usize, &mut Cursor<'_>) -> Result<Pattern, Halt<NoTree>>> Pat
         ensures { Reads (spec.whole (spec.cons_at self.now.depth) tokens.old) result tokens.new }
     {
         let at = tokens.here()?;
-        let inner = self.cons(tokens)?;
-        let name = alias(self.alloc, tokens)?;
+        let (inner, name) = paired(self.cons(tokens)?, alias(self.alloc, tokens))?;
         Ok(named(self.alloc, at, inner, name)?)
     }
 
@@ -338,8 +335,7 @@ impl<F: Fn(Global, usize, &mut Cursor<'_>) -> Result<Pattern, Halt<NoTree>>> Pat
     {
         let at = tokens.here()?;
         tokens.expect(Terminal::LeftBracket)?;
-        let parts = self.any_patterns(tokens)?;
-        tokens.expect(Terminal::RightBracket)?;
+        let parts = terminated(self.any_patterns(tokens)?, tokens, Terminal::RightBracket)?;
         Ok(Pattern::List { at, parts })
     }
 
@@ -349,11 +345,8 @@ impl<F: Fn(Global, usize, &mut Cursor<'_>) -> Result<Pattern, Halt<NoTree>>> Pat
         ensures { Reads (spec.inside_brackets (spec.cons_at self.now.depth) tokens.old) result tokens.new }
     {
         let found = self.any_patterns(tokens)?;
-        if found.len() <= MOST_PARTS {
-            Ok(found)
-        } else {
-            Err(Halt::Because(NoTree))
-        }
+        let is_tuple = found.len() <= MOST_PARTS;
+        verified(found, is_tuple, Halt::Because(NoTree))
     }
 
     /// `()`, a pattern in brackets, or a tuple.
@@ -364,8 +357,7 @@ impl<F: Fn(Global, usize, &mut Cursor<'_>) -> Result<Pattern, Halt<NoTree>>> Pat
     {
         let at = tokens.here()?;
         tokens.expect(Terminal::LeftParen)?;
-        let parts = self.inside_brackets(tokens)?;
-        tokens.expect(Terminal::RightParen)?;
+        let parts = terminated(self.inside_brackets(tokens)?, tokens, Terminal::RightParen)?;
         Ok(enclosed(self.alloc, at, parts)?)
     }
 
@@ -421,7 +413,7 @@ impl<F: Fn(Global, usize, &mut Cursor<'_>) -> Result<Pattern, Halt<NoTree>>> Pat
     {
         let at = tokens.here()?;
         let constructor = tokens.name(self.alloc, Terminal::Upper)?;
-        let parts = self.parts(tokens)?;
+        let (constructor, parts) = paired(constructor, self.parts(tokens))?;
         Ok(Pattern::Made {
             at,
             constructor,
@@ -461,8 +453,7 @@ impl<F: Fn(Global, usize, &mut Cursor<'_>) -> Result<Pattern, Halt<NoTree>>> Pat
         ensures { Reads (spec.level (spec.cons_at self.now.depth) tokens.old) result tokens.new }
     {
         let at = tokens.here()?;
-        let head = self.operand(tokens)?;
-        let tail = self.tail(tokens)?;
+        let (head, tail) = paired(self.operand(tokens)?, self.tail(tokens))?;
         Ok(consed(self.alloc, at, head, tail)?)
     }
 }
@@ -480,13 +471,8 @@ pub fn pattern(alloc: Global, tokens: &[Token<'_>]) -> Result<Pattern, Halt<NoTr
 {
     let mut cursor = Cursor::new(tokens);
     let found = pattern_at(alloc, DEPTH, &mut cursor)?;
-    if !cursor.is_empty() {
-        return Err(Halt::Because(NoTree));
-    }
-    if !pattern_nests_within(&found, MOST_NESTING) {
-        return Err(Halt::Because(NoTree));
-    }
-    Ok(found)
+    let passes = cursor.is_empty() && pattern_nests_within(&found, MOST_NESTING);
+    verified(found, passes, Halt::Because(NoTree))
 }
 
 /// A list of tokens stands for at most one pattern, however deep it nests.
