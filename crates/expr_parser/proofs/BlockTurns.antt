@@ -1,8 +1,8 @@
 -- How a block begins.
 use Rattle.std.proofs.Common.{◌≡◌, List, [], ◌∷◌, Some}
 use Rattle.elm_base.specs.declared.token.At.{At}
+use Rattle.elm_base.specs.Lexemes.{Lexeme}
 use Rattle.grammar.specs.declared.terminal.Terminal.{Terminal}
-use Rattle.grammar.specs.Terminals.{Lexeme}
 use Rattle.grammar.specs.Reader.{Parser, here, item, items, block, with_front}
 use Rattle.grammar.proofs.Turns.{with_one}
 

@@ -1,8 +1,8 @@
 -- What stands in brackets, made at the place of the opening one, before a closing bracket that isn't there.
 use Rattle.std.proofs.Common.{◌≡◌, List, refl, ap, Some, None}
 use Rattle.elm_base.specs.declared.token.At.{At}
+use Rattle.elm_base.specs.Lexemes.{Lexeme}
 use Rattle.grammar.specs.declared.terminal.Terminal.{Terminal}
-use Rattle.grammar.specs.Terminals.{Lexeme}
 use Rattle.grammar.specs.Reader.{Outcome, Parser, and_then, here, mark, ◌▷◌, ◌◁◌, ◌<$>◌}
 use Rattle.grammar.specs.Reader as reader
 use Rattle.grammar.proofs.Laws.{ok_same}

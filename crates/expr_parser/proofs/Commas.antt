@@ -2,8 +2,9 @@
 use Rattle.std.proofs.Common.{◌≡◌, ℕ, zero, suc, ◌≤◌, true, false, if◌then◌else◌, List, [], ◌∷◌, ◌++◌, length, refl, ◌∙◌, ap, arith, Some, None}
 use Rattle.std.specs.Prelude.{nat_le}
 use Rattle.std.proofs.lemmas.Bool.Decides.{nat_tests}
+use Rattle.elm_base.specs.Lexemes.{Lexeme}
 use Rattle.grammar.specs.declared.terminal.Terminal.TheVariants as k
-use Rattle.grammar.specs.Terminals.{Lexeme, starts}
+use Rattle.grammar.specs.Terminals.{starts}
 use Rattle.grammar.specs.Reader.{Outcome, Parser, and_then, mark, many, spelled, with_front, ◌⊗◌, ◌<$>◌}
 use Rattle.grammar.proofs.Laws as laws
 use Rattle.grammar.proofs.Turns.{Takes, takes, loop_turn, loop_ends, with_one}

@@ -5,7 +5,7 @@ use Rattle.elm_base.specs.declared.token.At.{At}
 use Rattle.elm_base.specs.declared.tree.Operator.{Operator}
 use Rattle.elm_base.specs.declared.tree.Expr.{Expr}
 use Rattle.elm_base.specs.declared.tree.Expr.TheVariants as e
-use Rattle.grammar.specs.Terminals.{Lexeme}
+use Rattle.elm_base.specs.Lexemes.{Lexeme}
 use Rattle.grammar.specs.Reader.{Parser, Outcome, and_then, here, at, ◌⊗◌, ◌<$>◌}
 use Rattle.grammar.proofs.Laws.{then_ok, ok_same}
 use Rattle.expr_parser.specs.Chains.{apart, separately}

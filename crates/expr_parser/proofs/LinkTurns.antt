@@ -2,9 +2,10 @@
 use Rattle.std.proofs.Common.{◌≡◌, ◌≢◌, ℕ, zero, suc, ◌<◌, ◌≤◌, Bool, true, false, if◌then◌else◌, List, [], ◌∷◌, ◌++◌, length, refl, sym, ◌∙◌, ap, append_assoc, append-nil, arith, Some, None}
 use Rattle.elm_base.specs.declared.memory.Halt.{Halt}
 use Rattle.elm_base.specs.declared.memory.Halt.TheVariants as halt
+use Rattle.elm_base.specs.Lexemes.{Lexeme}
 use Rattle.grammar.specs.declared.cursor.NoTree.{NoTree}
 use Rattle.grammar.specs.declared.terminal.Terminal.{Terminal}
-use Rattle.grammar.specs.Terminals.{Lexeme, starts}
+use Rattle.grammar.specs.Terminals.{starts}
 use Rattle.grammar.specs.Reader.{Outcome, Parser, and_then, links, with_front}
 use Rattle.grammar.proofs.Turns.{Takes}
 

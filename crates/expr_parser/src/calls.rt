@@ -2,7 +2,7 @@
 ghost use Rattle.std.specs.Prelude.{◌≡◌, ◌≢◌, ◌≤◌, List, map, IfOk, IfErr, MatchResult};
 ghost use Rattle.elm_base.specs.declared.memory.Halt.TheVariants as halt;
 ghost use Rattle.elm_base.specs.declared.tree.Expr.{Expr};
-ghost use Rattle.grammar.specs.Terminals.{Lexeme, lexeme};
+ghost use Rattle.elm_base.specs.Lexemes.{Lexeme, lexeme};
 ghost use Rattle.expr_parser.specs.Expressions.{DerivesExpr};
 ghost use Rattle.tree_nesting.specs.Nesting.{max_nesting};
 ghost use Rattle.tree_nesting.specs.ExpressionNesting.{expr_nesting};

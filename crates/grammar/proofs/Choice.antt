@@ -1,7 +1,8 @@
 -- A choice by a test on several tokens.
 use Rattle.std.proofs.Common.{◌≡◌, Bool, true, false, if◌then◌else◌, inl, inr, ⊎_elim, List, [], ◌∷◌, ◌++◌, Some}
+use Rattle.elm_base.specs.Lexemes.{Lexeme}
 use Rattle.grammar.specs.declared.terminal.Terminal.{Terminal}
-use Rattle.grammar.specs.Terminals.{Lexeme, terminal, starts}
+use Rattle.grammar.specs.Terminals.{terminal, starts}
 use Rattle.grammar.specs.Rules as rule
 use Rattle.grammar.specs.Rules.{Rule}
 use Rattle.grammar.specs.Reader as reader

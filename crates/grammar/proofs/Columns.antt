@@ -1,8 +1,9 @@
 -- The laws of blocks.
 use Rattle.std.proofs.Common.{◌≡◌, ℕ, zero, suc, ◌+◌, ◌<◌, ◌≤◌, Bool, true, false, ◌&&◌, if◌then◌else◌, ◌==◌, ltb, ⊎_elim, List, [], ◌∷◌, ◌++◌, length, take, drop, refl, sym, ◌∙◌, ap, subst, append_assoc, arith, length-append, take-append-drop, lt-ltb, le-ltb, ltb-true, eq-eqb, eqb-true, Some}
 use Rattle.std.proofs.Math.Seq.{take-append-add, drop-append-add}
+use Rattle.elm_base.specs.Lexemes.{Lexeme}
 use Rattle.grammar.specs.declared.terminal.Terminal.{Terminal}
-use Rattle.grammar.specs.Terminals.{Lexeme, terminal, has, starts}
+use Rattle.grammar.specs.Terminals.{terminal, has, starts}
 use Rattle.grammar.specs.Rules as rule
 use Rattle.grammar.specs.Rules.{Rule, AreRight}
 use Rattle.grammar.specs.Reader as reader

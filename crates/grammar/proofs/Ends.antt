@@ -1,7 +1,8 @@
 -- What may stand behind a value depends on the value: a parser reads those that pass a test where fewer terminals go on.
 use Rattle.std.proofs.Common.{◌≡◌, Bool, true, false, ⊎_elim, List, [], ◌∷◌, ◌++◌, refl, sym, ◌∙◌, ap, subst, append_assoc, Some}
+use Rattle.elm_base.specs.Lexemes.{Lexeme}
 use Rattle.grammar.specs.declared.terminal.Terminal.{Terminal}
-use Rattle.grammar.specs.Terminals.{Lexeme, terminal, starts}
+use Rattle.grammar.specs.Terminals.{terminal, starts}
 use Rattle.grammar.specs.Rules as rule
 use Rattle.grammar.specs.Rules.{Rule}
 use Rattle.grammar.specs.Reader as reader

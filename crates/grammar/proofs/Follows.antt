@@ -1,7 +1,8 @@
 -- What stands second where the first token is of a set. So a choice by two tokens tells apart what begins alike.
 use Rattle.std.proofs.Common.{◌≡◌, ℕ, Bool, true, false, ◌&&◌, ⊎_elim, List, [], ◌∷◌, ◌++◌, drop, refl, sym, subst, Option}
+use Rattle.elm_base.specs.Lexemes.{Lexeme}
 use Rattle.grammar.specs.declared.terminal.Terminal.{Terminal}
-use Rattle.grammar.specs.Terminals.{Lexeme, terminal, has, starts}
+use Rattle.grammar.specs.Terminals.{terminal, has, starts}
 use Rattle.grammar.specs.Rules as rule
 use Rattle.grammar.specs.Rules.{Rule}
 use Rattle.grammar.specs.Reader as reader

@@ -2,10 +2,11 @@
 use Rattle.std.proofs.Common.{◌≡◌, ℕ, zero, suc, ◌≤◌, Bool, true, false, not, ◌&&◌, ◌||◌, if◌then◌else◌, ◌⊎◌, inl, inr, ⊎_elim, List, [], ◌∷◌, ◌++◌, length, refl, sym, ◌∙◌, ap, subst, append_assoc, arith, rules, length-append, Option, Some, None}
 use denote.Enum.Bare.{same_true, true_same}
 use Rattle.elm_base.specs.declared.token.At.{At}
+use Rattle.elm_base.specs.Lexemes.{Lexeme}
 use Rattle.grammar.specs.contracts.terminal.Terminal.{the_type}
 use Rattle.grammar.specs.declared.terminal.Terminal.{Terminal}
 use Rattle.grammar.specs.declared.terminal.Terminal.TheVariants as k
-use Rattle.grammar.specs.Terminals.{Lexeme, terminal, same_terminal, has, starts}
+use Rattle.grammar.specs.Terminals.{terminal, same_terminal, has, starts}
 use Rattle.grammar.specs.Rules as rule
 use Rattle.grammar.specs.Rules.{Rule}
 use Rattle.grammar.specs.Reader as reader

@@ -1,7 +1,7 @@
 -- What a rule takes with a bound on its value, another takes as well. So a tree derives at any depth that its nesting needs.
 use Rattle.std.proofs.Common.{ℕ, ◌≡◌, ⊎_elim, inl, inr, List, [], ◌∷◌, Bool, subst}
+use Rattle.elm_base.specs.Lexemes.{Lexeme}
 use Rattle.tree_nesting.proofs.Each.{Each}
-use Rattle.grammar.specs.Terminals.{Lexeme}
 use Rattle.grammar.specs.Rules as rule
 use Rattle.grammar.specs.Rules.{Rule}
 

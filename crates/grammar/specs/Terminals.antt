@@ -3,22 +3,12 @@ use Rattle.std.specs.Prelude.{ℕ, nat_eq, Bool, false, ◌||◌, ◌==◌, if�
 use Rattle.std.specs.List.{list_any}
 use denote.Enum.Bare.{sameb}
 use lib.Pointwise.{pointwise}
-use Rattle.elm_base.specs.declared.token.At.{At}
-use Rattle.elm_base.specs.declared.token.Token.{Token}
+use Rattle.elm_base.specs.Lexemes.{Lexeme}
 use Rattle.elm_base.specs.declared.token.TokenKind.{TokenKind}
 use Rattle.elm_base.specs.declared.token.TokenKind.TheVariants as kind
 use Rattle.grammar.specs.contracts.terminal.Terminal.{the_type}
 use Rattle.grammar.specs.declared.terminal.Terminal.{Terminal}
 use Rattle.grammar.specs.declared.terminal.Terminal.TheVariants as k
-
--- a token without where its text lies in memory
-pub record Lexeme : Type 0 where
-  pub kind : TokenKind
-  pub text : List ℕ
-  pub at : At
-
-abbrev pub lexeme : Token → Lexeme
-lexeme t = record { kind = t.kind; text = t.text.now; at = record { line = t.line; column = t.column } }
 
 -- ---- terminals
 

@@ -1,7 +1,8 @@
 //! The tokens that are left to a parser.
 ghost use Rattle.std.specs.Prelude.{◌≡◌, ◌≤◌, [], ◌∷◌, length, map, take, drop};
 ghost use Rattle.elm_base.specs.declared.memory.Halt.TheVariants as halt;
-ghost use Rattle.grammar.specs.Terminals.{lexeme, starts};
+ghost use Rattle.elm_base.specs.Lexemes.{lexeme};
+ghost use Rattle.grammar.specs.Terminals.{starts};
 ghost use Rattle.grammar.specs.declared.terminal.Terminal.TheVariants as k;
 ghost use Rattle.grammar.specs.Reader as spec;
 ghost use Rattle.grammar.specs.Spelling as spelling;
@@ -28,7 +29,7 @@ pub struct Cursor<'a> {
 
 impl<'a> Model for Cursor<'a> {
     ghost use Rattle.std.specs.Prelude.{List, map};
-    ghost use Rattle.grammar.specs.Terminals.{Lexeme, lexeme};
+    ghost use Rattle.elm_base.specs.Lexemes.{Lexeme, lexeme};
 
     ghost Value = { List Lexeme };
 

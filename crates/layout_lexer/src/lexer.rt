@@ -4,9 +4,10 @@ ghost use Rattle.std.specs.Prelude.{◌≡◌, ◌≤◌, ◌⊎◌, Bool, List,
 ghost use Rattle.std.specs.Str.{IsUtf8};
 ghost use Rattle.elm_base.specs.declared.memory.Halt.TheVariants as halts;
 ghost use Rattle.elm_base.specs.declared.token.TokenKind.{TokenKind};
+ghost use Rattle.elm_base.specs.Lexemes.{Lexeme, lexeme};
 ghost use Rattle.layout_lexer.specs.declared.place.TextFault.{TextFault};
 ghost use Rattle.layout_lexer.specs.Chars.{Text};
-ghost use Rattle.layout_lexer.specs.Lexemes.{Lexeme, lexeme, fault_after as fault_after_of};
+ghost use Rattle.layout_lexer.specs.Places.{fault_after as fault_after_of};
 ghost use Rattle.layout_lexer.specs.Spellings.{Begins};
 ghost use Rattle.layout_lexer.specs.Cuts.{joins as joins_of, is_value as is_value_of, HasNoTab, HasBadByte, HasTab};
 ghost use Rattle.layout_lexer.specs.Tokens.{Stands, token_part, IsSpelling, Tokens, FirstFault, AreSlices, OnBecause};

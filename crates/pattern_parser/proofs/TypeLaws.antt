@@ -5,9 +5,9 @@ use Rattle.elm_base.specs.declared.memory.Halt.TheVariants as halt
 use Rattle.elm_base.specs.declared.token.At.{At}
 use Rattle.elm_base.specs.declared.tree.Spot.{Spot}
 use Rattle.elm_base.specs.declared.tree.TypeTree.{TypeTree}
+use Rattle.elm_base.specs.Lexemes.{Lexeme}
 use Rattle.grammar.specs.declared.cursor.NoTree.{NoTree}
 use Rattle.grammar.specs.declared.terminal.Terminal.TheVariants as k
-use Rattle.grammar.specs.Terminals.{Lexeme}
 use Rattle.grammar.specs.Rules as rule
 use Rattle.grammar.specs.Rules.{Rule, at_most_nine}
 use Rattle.grammar.specs.Reader as reader

@@ -4,8 +4,8 @@ use Rattle.std.specs.declared.alloc.Global.{Global}
 use denote.Ref.{MutBor}
 use Rattle.elm_base.specs.declared.memory.Halt.{Halt}
 use Rattle.elm_base.specs.declared.tree.Pattern.{Pattern}
+use Rattle.elm_base.specs.Lexemes.{Lexeme}
 use Rattle.grammar.specs.declared.cursor.NoTree.{NoTree}
-use Rattle.grammar.specs.Terminals.{Lexeme}
 use Rattle.grammar.specs.Reader.{Reads}
 use Rattle.pattern_parser.specs.PatternReader.{cons_at}
 

@@ -2,7 +2,8 @@
 ghost use Rattle.std.specs.Prelude.{◌≡◌, ◌≢◌, ◌≤◌, [], ◌∷◌, List, Option, Some, None, map, IfOk, IfErr, MatchResult};
 ghost use Rattle.elm_base.specs.declared.memory.Halt.TheVariants as halt;
 ghost use Rattle.elm_base.specs.declared.tree.Pattern.{Pattern};
-ghost use Rattle.grammar.specs.Terminals.{Lexeme, lexeme, starts};
+ghost use Rattle.elm_base.specs.Lexemes.{Lexeme, lexeme};
+ghost use Rattle.grammar.specs.Terminals.{starts};
 ghost use Rattle.grammar.specs.Reader.{Reads, with_front};
 ghost use Rattle.tree_nesting.specs.Nesting.{max_nesting, pattern_nesting};
 ghost use Rattle.pattern_parser.specs.Patterns as grammar;
@@ -10,8 +11,8 @@ ghost use Rattle.pattern_parser.specs.Patterns.{DerivesPattern};
 ghost use Rattle.pattern_parser.specs.PatternReader as spec;
 ghost use Rattle.pattern_parser.specs.PatternCalls.{ReadsPatterns};
 
-use grammar::{Cursor, MOST_PARTS, NoTree, Terminal};
 use elm_base::{At, Halt, Pattern, Spot, Token};
+use grammar::{Cursor, MOST_PARTS, NoTree, Terminal};
 use sqlite_items::{Boxed, Items};
 use std::alloc::{AllocError, Global};
 use tree_nesting::{MOST_NESTING, pattern_nests_within};

@@ -2,7 +2,8 @@
 ghost use Rattle.std.specs.Prelude.{◌≡◌, ◌≢◌, ◌≤◌, [], ◌∷◌, List, Option, Some, None, map, IfOk, IfErr, MatchResult};
 ghost use Rattle.elm_base.specs.declared.memory.Halt.TheVariants as halt;
 ghost use Rattle.elm_base.specs.declared.tree.TypeTree.{TypeTree};
-ghost use Rattle.grammar.specs.Terminals.{Lexeme, lexeme, starts};
+ghost use Rattle.elm_base.specs.Lexemes.{Lexeme, lexeme};
+ghost use Rattle.grammar.specs.Terminals.{starts};
 ghost use Rattle.grammar.specs.Reader.{Reads, with_front};
 ghost use Rattle.tree_nesting.specs.Nesting.{max_nesting, type_nesting};
 ghost use Rattle.pattern_parser.specs.Types as grammar;
@@ -10,8 +11,8 @@ ghost use Rattle.pattern_parser.specs.Types.{DerivesType};
 ghost use Rattle.pattern_parser.specs.TypeReader as spec;
 ghost use Rattle.pattern_parser.specs.TypeCalls.{ReadsTypes};
 
-use grammar::{Cursor, MOST_PARTS, NoTree, Terminal};
 use elm_base::{At, Halt, Spot, Token, TypeTree};
+use grammar::{Cursor, MOST_PARTS, NoTree, Terminal};
 use sqlite_items::{Boxed, Items};
 use std::alloc::{AllocError, Global};
 use tree_nesting::{MOST_NESTING, type_nests_within};

@@ -1,6 +1,6 @@
 use Rattle.std.proofs.Common.{◌≡◌, ℕ, ◌+◌, ◌<◌, ◌≤◌, List, map, drop, length, get_or, le-ltb, lt-ltb, drop-cons, drop_of_length-le, add-one, refl, arith}
 use Rattle.elm_base.specs.declared.token.Token.{Token}
-use Rattle.grammar.specs.Terminals.{lexeme}
+use Rattle.elm_base.specs.Lexemes.{lexeme}
 use Rattle.grammar.specs.Reader.{right}
 use Rattle.grammar.proofs.cursor.right.Goals as goal
 

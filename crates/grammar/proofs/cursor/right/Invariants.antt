@@ -1,5 +1,5 @@
 use Rattle.std.proofs.Common.{◌≡◌, ◌+◌, map, drop}
-use Rattle.grammar.specs.Terminals.{lexeme}
+use Rattle.elm_base.specs.Lexemes.{lexeme}
 use Rattle.grammar.specs.Reader.{right}
 use Rattle.grammar.proofs.cursor.right.Given as goal
 
