@@ -10,3 +10,5 @@ pub mod Choice
 pub mod Follows
 pub mod Items
 pub mod Cut
+pub mod ListLaws
+pub mod ListTurns

@@ -3,8 +3,10 @@
 #![tactic(auto)]
 
 mod cursor;
+mod lists;
 mod spelling;
 mod terminal;
 
 pub use cursor::{Cursor, MOST_PARTS, NoTree};
+pub use lists::{block, many, many_more, sees_any, separated, some};
 pub use terminal::Terminal;
