@@ -1,5 +1,5 @@
 -- What a token is to the grammar, apart from what its spelling stands for.
-use Rattle.std.specs.Prelude.{ℕ, nat_eq, Bool, false, ◌||◌, ◌==◌, if◌then◌else◌, List, [], ◌∷◌, codes}
+use Rattle.std.specs.Prelude.{ℕ, nat_eq, Bool, false, ◌||◌, ◌==◌, if◌then◌else◌, List, [], ◌∷◌, codes, Option, Some, None}
 use Rattle.std.specs.List.{list_any}
 use denote.Enum.Bare.{sameb}
 use lib.Pointwise.{pointwise}
@@ -20,27 +20,27 @@ is text spelling = pointwise nat_eq text spelling
 abbrev pub is_qualified : List ℕ → Bool
 is_qualified text = list_any (λ b. b == 46) text
 
-abbrev pub bracket : List ℕ → Terminal
-bracket text =
-    if is text (codes "(") then k.LeftParen else if is text (codes ")") then k.RightParen else
-    if is text (codes "[") then k.LeftBracket else if is text (codes "]") then k.RightBracket else
-    if is text (codes "{") then k.LeftBrace else if is text (codes "}") then k.RightBrace else k.Other
+-- what the first entry with this spelling says
+abbrev pub listed : List (List ℕ × Terminal) → List ℕ → Terminal
+listed [] text = k.Other
+listed (entry ∷ entries) text = if is text entry.0 then entry.1 else listed entries text
 
-abbrev pub symbol : List ℕ → Terminal
-symbol text =
-    if is text (codes ",") then k.Comma else if is text ((92 ∷ [])) then k.Backslash else
-    if is text (codes "_") then k.Underscore else if is text (codes "`") then k.Backtick else
-    if is text (codes "=") then k.Equals else if is text (codes "->") then k.Arrow else
-    if is text (codes "|") then k.Bar else if is text (codes ":") then k.Colon else
-    if is text (codes "<-") then k.LeftArrow else if is text (codes "..") then k.DotDot else bracket text
+-- the words of the language
+abbrev pub words : List (List ℕ × Terminal)
+words =
+    (codes "alias", k.Alias) ∷ (codes "as", k.As) ∷ (codes "case", k.Case) ∷ (codes "else", k.Else)
+    ∷ (codes "exposing", k.Exposing) ∷ (codes "if", k.If) ∷ (codes "import", k.Import) ∷ (codes "in", k.In)
+    ∷ (codes "infix", k.Infix) ∷ (codes "infixl", k.Infixl) ∷ (codes "infixr", k.Infixr) ∷ (codes "let", k.Let)
+    ∷ (codes "module", k.Module) ∷ (codes "of", k.Of) ∷ (codes "port", k.Port) ∷ (codes "then", k.Then)
+    ∷ (codes "type", k.Type) ∷ (codes "where", k.Where) ∷ []
 
--- the words of expressions and patterns
-abbrev pub word : List ℕ → Terminal
-word text =
-    if is text (codes "as") then k.As else if is text (codes "case") then k.Case else
-    if is text (codes "else") then k.Else else if is text (codes "if") then k.If else
-    if is text (codes "in") then k.In else if is text (codes "let") then k.Let else
-    if is text (codes "of") then k.Of else if is text (codes "then") then k.Then else k.Other
+-- the symbols of the language
+abbrev pub symbols : List (List ℕ × Terminal)
+symbols =
+    (codes "(", k.LeftParen) ∷ (codes ")", k.RightParen) ∷ (codes "[", k.LeftBracket) ∷ (codes "]", k.RightBracket)
+    ∷ (codes "{", k.LeftBrace) ∷ (codes "}", k.RightBrace) ∷ (codes ",", k.Comma) ∷ (92 ∷ [], k.Backslash)
+    ∷ (codes "_", k.Underscore) ∷ (codes "`", k.Backtick) ∷ (codes "=", k.Equals) ∷ (codes "->", k.Arrow)
+    ∷ (codes "|", k.Bar) ∷ (codes ":", k.Colon) ∷ (codes "<-", k.LeftArrow) ∷ (codes "..", k.DotDot) ∷ []
 
 abbrev pub operator : List ℕ → Terminal
 operator text = if is text (codes "-") then k.Minus else if is text (codes "::") then k.Cons else k.Operator
@@ -53,13 +53,18 @@ terminal_of kind.Int text = k.Int
 terminal_of kind.Char text = k.Char
 terminal_of kind.Text text = k.Text
 terminal_of kind.Operator text = operator text
-terminal_of kind.Symbol text = symbol text
-terminal_of kind.Word text = word text
+terminal_of kind.Symbol text = listed symbols text
+terminal_of kind.Word text = listed words text
 terminal_of kind.Access text = k.Access
 terminal_of kind.FieldFunction text = k.FieldFunction
 
 abbrev pub terminal : Lexeme → Terminal
 terminal t = terminal_of t.kind t.text
+
+-- what the first token is, if there is one
+abbrev pub first : List Lexeme → Option Terminal
+first [] = None
+first (t ∷ ts) = Some (terminal t)
 
 -- ---- sets of terminals
 

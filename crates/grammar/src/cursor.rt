@@ -1,8 +1,8 @@
 //! The tokens that are left to a parser.
-ghost use Rattle.std.specs.Prelude.{◌≡◌, ◌≤◌, [], ◌∷◌, length, map, take, drop};
+ghost use Rattle.std.specs.Prelude.{◌≡◌, ◌≤◌, true, false, [], ◌∷◌, length, map, take, drop, MatchOption};
 ghost use Rattle.elm_base.specs.declared.memory.Halt.TheVariants as halt;
 ghost use Rattle.elm_base.specs.Lexemes.{lexeme};
-ghost use Rattle.grammar.specs.Terminals.{starts};
+ghost use Rattle.grammar.specs.Terminals.{first, starts};
 ghost use Rattle.grammar.specs.declared.terminal.Terminal.TheVariants as k;
 ghost use Rattle.grammar.specs.Reader as spec;
 ghost use Rattle.grammar.specs.Spelling as spelling;
@@ -25,22 +25,38 @@ pub const MOST_PARTS: usize = 9;
 #[derive(Drop)]
 pub struct Cursor<'a> {
     tokens: &'a [Token<'a>],
+    /// What the next token is to the grammar. It is found once, when the cursor comes to the token.
+    next: Option<Terminal>,
 }
 
 impl<'a> Model for Cursor<'a> {
-    ghost use Rattle.std.specs.Prelude.{List, map};
+    ghost use Rattle.std.specs.Prelude.{◌≡◌, List, map};
     ghost use Rattle.elm_base.specs.Lexemes.{Lexeme, lexeme};
+    ghost use Rattle.grammar.specs.Terminals.{first};
 
     ghost Value = { List Lexeme };
 
     ghost view = { λ cursor. map lexeme cursor.tokens.now };
+
+    ghost invariant = { λ cursor. cursor.next ≡ first (map lexeme cursor.tokens.now) };
+}
+
+/// What the first of the tokens is to the grammar.
+fn first_terminal(tokens: &[Token<'_>]) -> Option<Terminal>
+    ensures { result ≡ first (map lexeme tokens.now) }
+{
+    match tokens {
+        [] => None,
+        [token, ..] => Some(terminal_of(token)),
+    }
 }
 
 impl<'a> Cursor<'a> {
     pub fn new(tokens: &'a [Token<'a>]) -> Cursor<'a>
         ensures { result ≡ map lexeme tokens.now }
     {
-        Cursor { tokens }
+        let next = first_terminal(tokens);
+        Cursor { tokens, next }
     }
 
     pub fn is_empty(&self) -> bool
@@ -53,9 +69,9 @@ impl<'a> Cursor<'a> {
     pub fn sees(&self, symbol: Terminal) -> bool
         ensures { result ≡ starts (symbol ∷ []) self.now }
     {
-        match self.tokens {
-            [] => false,
-            [token, ..] => same_terminal(terminal_of(token), symbol),
+        match self.next {
+            None => false,
+            Some(next) => same_terminal(next, symbol),
         }
     }
 
@@ -83,20 +99,30 @@ impl<'a> Cursor<'a> {
         }
     }
 
+    /// The next token, where it is this one, and the cursor behind it.
+    fn split(&self, symbol: Terminal) -> Option<(Token<'a>, Cursor<'a>)>
+        ensures { MatchOption result (starts (symbol ∷ []) self.now ≡ false) (λ found.
+            (starts (symbol ∷ []) self.now ≡ true) × (self.now ≡ lexeme found.0 ∷ found.1)) }
+    {
+        if !self.sees(symbol) {
+            return None;
+        }
+        match self.tokens {
+            [] => None,
+            [token, rest @ ..] => Some((*token, Cursor::new(rest))),
+        }
+    }
+
     /// Passes over the next token, which is this one.
     #[tactic(auto, unfolding(crate::specs::Reader::spelled))]
     pub fn expect(&mut self, symbol: Terminal) -> Result<(), Halt<NoTree>>
         ensures { Reads (spec.mark symbol self.old) result self.new }
     {
-        match self.tokens {
-            [] => Err(Halt::Because(NoTree)),
-            [token, rest @ ..] => {
-                if same_terminal(terminal_of(token), symbol) {
-                    self.tokens = rest;
-                    Ok(())
-                } else {
-                    Err(Halt::Because(NoTree))
-                }
+        match self.split(symbol) {
+            None => Err(Halt::Because(NoTree)),
+            Some((_, rest)) => {
+                *self = rest;
+                Ok(())
             }
         }
     }
@@ -106,16 +132,11 @@ impl<'a> Cursor<'a> {
     pub fn name(&mut self, alloc: Global, symbol: Terminal) -> Result<Name, Halt<NoTree>>
         ensures { Reads (spec.name symbol self.old) result self.new }
     {
-        match self.tokens {
-            [] => Err(Halt::Because(NoTree)),
-            [token, rest @ ..] => {
-                if same_terminal(terminal_of(token), symbol) {
-                    let name = Name::of(alloc, token.text)?;
-                    self.tokens = rest;
-                    Ok(name)
-                } else {
-                    Err(Halt::Because(NoTree))
-                }
+        match self.split(symbol) {
+            None => Err(Halt::Because(NoTree)),
+            Some((token, rest)) => {
+                *self = rest;
+                Ok(Name::of(alloc, token.text)?)
             }
         }
     }
@@ -125,19 +146,11 @@ impl<'a> Cursor<'a> {
     pub fn int(&mut self) -> Result<i64, Halt<NoTree>>
         ensures { Reads (spec.spelled k.Int spelling.int_value self.old) result self.new }
     {
-        match self.tokens {
-            [] => Err(Halt::Because(NoTree)),
-            [token, rest @ ..] => {
-                if !same_terminal(terminal_of(token), Terminal::Int) {
-                    return Err(Halt::Because(NoTree));
-                }
-                match int_value(token.text) {
-                    None => Err(Halt::Because(NoTree)),
-                    Some(value) => {
-                        self.tokens = rest;
-                        Ok(value)
-                    }
-                }
+        match self.split(Terminal::Int) {
+            None => Err(Halt::Because(NoTree)),
+            Some((token, rest)) => {
+                *self = rest;
+                int_value(token.text).ok_or(Halt::Because(NoTree))
             }
         }
     }
@@ -147,19 +160,11 @@ impl<'a> Cursor<'a> {
     pub fn character(&mut self, alloc: Global) -> Result<char, Halt<NoTree>>
         ensures { Reads (spec.spelled k.Char spelling.char_value self.old) result self.new }
     {
-        match self.tokens {
-            [] => Err(Halt::Because(NoTree)),
-            [token, rest @ ..] => {
-                if !same_terminal(terminal_of(token), Terminal::Char) {
-                    return Err(Halt::Because(NoTree));
-                }
-                match char_value(alloc, token.text)? {
-                    None => Err(Halt::Because(NoTree)),
-                    Some(value) => {
-                        self.tokens = rest;
-                        Ok(value)
-                    }
-                }
+        match self.split(Terminal::Char) {
+            None => Err(Halt::Because(NoTree)),
+            Some((token, rest)) => {
+                *self = rest;
+                char_value(alloc, token.text)?.ok_or(Halt::Because(NoTree))
             }
         }
     }
@@ -169,19 +174,11 @@ impl<'a> Cursor<'a> {
     pub fn text(&mut self, alloc: Global) -> Result<Name, Halt<NoTree>>
         ensures { Reads (spec.spelled k.Text spelling.text_value self.old) result self.new }
     {
-        match self.tokens {
-            [] => Err(Halt::Because(NoTree)),
-            [token, rest @ ..] => {
-                if !same_terminal(terminal_of(token), Terminal::Text) {
-                    return Err(Halt::Because(NoTree));
-                }
-                match text_value(alloc, token.text)? {
-                    None => Err(Halt::Because(NoTree)),
-                    Some(value) => {
-                        self.tokens = rest;
-                        Ok(value)
-                    }
-                }
+        match self.split(Terminal::Text) {
+            None => Err(Halt::Because(NoTree)),
+            Some((token, rest)) => {
+                *self = rest;
+                text_value(alloc, token.text)?.ok_or(Halt::Because(NoTree))
             }
         }
     }
@@ -191,19 +188,11 @@ impl<'a> Cursor<'a> {
     pub fn label(&mut self, alloc: Global, symbol: Terminal) -> Result<Name, Halt<NoTree>>
         ensures { Reads (spec.spelled symbol spelling.label_of self.old) result self.new }
     {
-        match self.tokens {
-            [] => Err(Halt::Because(NoTree)),
-            [token, rest @ ..] => {
-                if !same_terminal(terminal_of(token), symbol) {
-                    return Err(Halt::Because(NoTree));
-                }
-                match label_of(alloc, token.text)? {
-                    None => Err(Halt::Because(NoTree)),
-                    Some(label) => {
-                        self.tokens = rest;
-                        Ok(label)
-                    }
-                }
+        match self.split(symbol) {
+            None => Err(Halt::Because(NoTree)),
+            Some((token, rest)) => {
+                *self = rest;
+                label_of(alloc, token.text)?.ok_or(Halt::Because(NoTree))
             }
         }
     }
@@ -251,9 +240,7 @@ impl<'a> Cursor<'a> {
         requires { len ≤ length self.now }
         ensures { result ≡ take len self.now }
     {
-        Cursor {
-            tokens: &self.tokens[..len],
-        }
+        Cursor::new(&self.tokens[..len])
     }
 
     /// Passes over the first so many tokens.
@@ -262,7 +249,7 @@ impl<'a> Cursor<'a> {
         requires { len ≤ length self.old }
         ensures { self.new ≡ drop len self.old }
     {
-        self.tokens = rest(self.tokens, len);
+        *self = Cursor::new(rest(self.tokens, len));
     }
 }
 

@@ -1,11 +1,12 @@
 //! What tokens are to the grammar.
-ghost use Rattle.std.specs.Prelude.{◌≡◌};
+ghost use Rattle.std.specs.Prelude.{◌≡◌, map};
 ghost use Rattle.grammar.specs.Terminals as spec;
 
 use elm_base::{Token, TokenKind};
 
-/// What a token is to the grammar of types, patterns and expressions, apart from what its spelling stands for.
-#[derive(Clone, Copy, Debug, PartialEq, Eq)]
+/// What a token is to the grammar, apart from what its spelling stands for. Each word and each symbol of the language is one
+/// of its own.
+#[derive(Clone, Copy, PartialEq, Eq)]
 pub enum Terminal {
     /// A name that begins with a lower-case letter, without modules before it.
     Lower,
@@ -37,88 +38,96 @@ pub enum Terminal {
     Colon,
     LeftArrow,
     DotDot,
+    Alias,
     As,
     Case,
     Else,
+    Exposing,
     If,
+    Import,
     In,
+    Infix,
+    Infixl,
+    Infixr,
     Let,
+    Module,
     Of,
+    Port,
     Then,
-    /// A token that no type, pattern or expression has.
+    Type,
+    Where,
+    /// A word or a symbol that the language doesn't have. No text has such a token.
     Other,
 }
 
-fn bracket(text: &[u8]) -> Terminal
-    ensures { result ≡ spec.bracket text.now }
+/// The words of the language.
+const WORDS: [(&[u8], Terminal); 18] = [
+    (b"alias", Terminal::Alias),
+    (b"as", Terminal::As),
+    (b"case", Terminal::Case),
+    (b"else", Terminal::Else),
+    (b"exposing", Terminal::Exposing),
+    (b"if", Terminal::If),
+    (b"import", Terminal::Import),
+    (b"in", Terminal::In),
+    (b"infix", Terminal::Infix),
+    (b"infixl", Terminal::Infixl),
+    (b"infixr", Terminal::Infixr),
+    (b"let", Terminal::Let),
+    (b"module", Terminal::Module),
+    (b"of", Terminal::Of),
+    (b"port", Terminal::Port),
+    (b"then", Terminal::Then),
+    (b"type", Terminal::Type),
+    (b"where", Terminal::Where),
+];
+
+/// The symbols of the language.
+const SYMBOLS: [(&[u8], Terminal); 16] = [
+    (b"(", Terminal::LeftParen),
+    (b")", Terminal::RightParen),
+    (b"[", Terminal::LeftBracket),
+    (b"]", Terminal::RightBracket),
+    (b"{", Terminal::LeftBrace),
+    (b"}", Terminal::RightBrace),
+    (b",", Terminal::Comma),
+    (b"\\", Terminal::Backslash),
+    (b"_", Terminal::Underscore),
+    (b"`", Terminal::Backtick),
+    (b"=", Terminal::Equals),
+    (b"->", Terminal::Arrow),
+    (b"|", Terminal::Bar),
+    (b":", Terminal::Colon),
+    (b"<-", Terminal::LeftArrow),
+    (b"..", Terminal::DotDot),
+];
+
+/// What the first entry with this spelling says.
+fn listed(entries: &[(&[u8], Terminal)], text: &[u8]) -> Terminal
+    ensures { result ≡ spec.listed (map (λ entry. (entry.0.now, entry.1)) entries.now) text.now }
 {
-    if text == b"(".as_slice() {
-        Terminal::LeftParen
-    } else if text == b")".as_slice() {
-        Terminal::RightParen
-    } else if text == b"[".as_slice() {
-        Terminal::LeftBracket
-    } else if text == b"]".as_slice() {
-        Terminal::RightBracket
-    } else if text == b"{".as_slice() {
-        Terminal::LeftBrace
-    } else if text == b"}".as_slice() {
-        Terminal::RightBrace
-    } else {
-        Terminal::Other
+    match entries {
+        [] => Terminal::Other,
+        [(spelling, terminal), rest @ ..] => {
+            if text == *spelling {
+                *terminal
+            } else {
+                listed(rest, text)
+            }
+        }
     }
 }
 
 fn symbol(text: &[u8]) -> Terminal
-    ensures { result ≡ spec.symbol text.now }
+    ensures { result ≡ spec.listed spec.symbols text.now }
 {
-    if text == b",".as_slice() {
-        Terminal::Comma
-    } else if text == b"\\".as_slice() {
-        Terminal::Backslash
-    } else if text == b"_".as_slice() {
-        Terminal::Underscore
-    } else if text == b"`".as_slice() {
-        Terminal::Backtick
-    } else if text == b"=".as_slice() {
-        Terminal::Equals
-    } else if text == b"->".as_slice() {
-        Terminal::Arrow
-    } else if text == b"|".as_slice() {
-        Terminal::Bar
-    } else if text == b":".as_slice() {
-        Terminal::Colon
-    } else if text == b"<-".as_slice() {
-        Terminal::LeftArrow
-    } else if text == b"..".as_slice() {
-        Terminal::DotDot
-    } else {
-        bracket(text)
-    }
+    listed(&SYMBOLS, text)
 }
 
 fn word(text: &[u8]) -> Terminal
-    ensures { result ≡ spec.word text.now }
+    ensures { result ≡ spec.listed spec.words text.now }
 {
-    if text == b"as".as_slice() {
-        Terminal::As
-    } else if text == b"case".as_slice() {
-        Terminal::Case
-    } else if text == b"else".as_slice() {
-        Terminal::Else
-    } else if text == b"if".as_slice() {
-        Terminal::If
-    } else if text == b"in".as_slice() {
-        Terminal::In
-    } else if text == b"let".as_slice() {
-        Terminal::Let
-    } else if text == b"of".as_slice() {
-        Terminal::Of
-    } else if text == b"then".as_slice() {
-        Terminal::Then
-    } else {
-        Terminal::Other
-    }
+    listed(&WORDS, text)
 }
 
 fn operator(text: &[u8]) -> Terminal
