@@ -5,10 +5,9 @@ use Rattle.elm_base.specs.declared.memory.Halt.{Halt}
 use Rattle.elm_base.specs.declared.memory.Halt.TheVariants as halt
 use Rattle.elm_base.specs.Lexemes.{Lexeme}
 use Rattle.grammar.specs.declared.cursor.NoTree.{NoTree}
-use Rattle.grammar.specs.declared.terminal.Terminal.{Terminal}
 use Rattle.grammar.specs.Rules.{Rule}
 use Rattle.grammar.specs.Reader.{Parser, item, extent, right}
-use Rattle.grammar.proofs.Laws.{Reading, then_ok, ok_same}
+use Rattle.grammar.proofs.Laws.{Sound, then_ok, ok_same}
 use Rattle.grammar.proofs.Turns.{Takes}
 
 pub item_takes : {A : Type 0} (column : ℕ) (p : Parser A) → Takes p → Takes (item column p)
@@ -31,11 +30,11 @@ extent_within column (t ∷ ts) = omega (arith, counts ts)
     counts [] = omega arith
     counts (t ∷ ts) = elim (ltb column t.at.column) as (λ b. (if b then suc (right column ts) else zero) ≤ suc (length ts)) [ true ↦ omega (arith, counts ts) | false ↦ omega arith ]
 
-module _ {A : Type 0} {P : Rule A} {p : Parser A} {f m : List Terminal} (r : Reading P p false f m) (column : ℕ) (ts left : List Lexeme) (x : A)
+module _ {A : Type 0} {P : Rule A} {p : Parser A} (r : Sound P p) (column : ℕ) (ts left : List Lexeme) (x : A)
     (e : p (take (extent column ts) ts) ≡ Some (x, left)) where
   pub left_within : length left ≤ extent column ts
   left_within =
-      let s = r.sound.reads (take (extent column ts) ts) left x e in
+      let s = r.reads (take (extent column ts) ts) left x e in
       let whole = ap length s.1 in
       omega (arith, length-append s.0 left, length-take (extent column ts) ts)
 
@@ -43,7 +42,7 @@ module _ {A : Type 0} {P : Rule A} {p : Parser A} {f m : List Terminal} (r : Rea
   unfolding item
   item_joins =
       let n = extent column ts in
-      let s = r.sound.reads (take n ts) left x e in
+      let s = r.reads (take n ts) left x e in
       let whole : length (take n ts) ≡ length s.0 + length left = ap length s.1 ∙ length-append s.0 left in
       let used : n - length left ≡ length s.0 = omega (arith, length-take n ts, extent_within column ts) in
       let all : ts ≡ s.0 ++ (left ++ drop n ts) = sym (take-append-drop n ts) ∙ ap (λ z. z ++ drop n ts) s.1 ∙ append_assoc s.0 left (drop n ts) in
@@ -52,7 +51,7 @@ module _ {A : Type 0} {P : Rule A} {p : Parser A} {f m : List Terminal} (r : Rea
       rw (e, rest)
 
 -- as the code has it: the length, the front and what was left of it by name
-pub item_end : {A : Type 0} {P : Rule A} {p : Parser A} {f m : List Terminal} (r : Reading P p false f m) (column len : ℕ) (ts front left : List Lexeme) (x : A)
+pub item_end : {A : Type 0} {P : Rule A} {p : Parser A} (r : Sound P p) (column len : ℕ) (ts front left : List Lexeme) (x : A)
     → len ≡ extent column ts → front ≡ take len ts → p front ≡ Some (x, left) → (length left ≤ len) × (item column p ts ≡ Some (x, drop (len - length left) ts))
 item_end {p = p} r column len ts front left x l h e =
     let read : p (take (extent column ts) ts) ≡ Some (x, left) = ap p (sym (h ∙ ap (λ n. take n ts) l)) ∙ e in (

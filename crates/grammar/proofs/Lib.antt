@@ -11,3 +11,5 @@ pub mod Follows
 pub mod Items
 pub mod Cut
 pub mod Wholes
+pub mod ListLaws
+pub mod ListTurns

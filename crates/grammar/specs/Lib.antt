@@ -2,3 +2,4 @@ pub mod Terminals
 pub mod Rules
 pub mod Reader
 pub mod Spelling
+pub mod Lists

@@ -3,10 +3,12 @@
 #![tactic(auto)]
 
 mod cursor;
+mod lists;
 mod spelling;
 mod terminal;
 mod values;
 
 pub use cursor::{Cursor, MOST_PARTS, NoTree};
+pub use lists::{block, many, many_more, sees_any, separated, some};
 pub use terminal::Terminal;
 pub use values::{boxed_pair, paired, terminated, verified};

@@ -8,7 +8,7 @@ use Rattle.elm_base.specs.declared.tree.Expr.TheVariants as e
 use Rattle.elm_base.specs.declared.tree.Declaration.{Declaration}
 use Rattle.elm_base.specs.declared.tree.Declaration.TheOpen as open_
 use Rattle.elm_base.specs.declared.tree.Declaration.TheFolds.{fold-roll-Expr}
-use Rattle.expr_parser.specs.Expressions.{chained, ends_step, ends_in_guards, last_of}
+use Rattle.expr_grammar.specs.Expressions.{chained, ends_step, ends_in_guards, last_of}
 use Rattle.grammar.proofs.Ends.{Last}
 use Rattle.tree_nesting.proofs.NestingLaws.{map_twice}
 

@@ -12,8 +12,9 @@ use Rattle.elm_base.specs.declared.tree.Declaration.TheOpen as open_
 use Rattle.elm_base.specs.declared.tree.Declaration.TheFolds.{fold-Expr}
 use Rattle.elm_base.specs.declared.tree.Declaration.{Declaration, out-Declaration}
 use Rattle.elm_base.specs.declared.tree.Declaration.TheVariants as d
-use Rattle.elm_base.specs.Lexemes.{Lexeme}
+use Rattle.grammar.specs.declared.terminal.Terminal.{Terminal}
 use Rattle.grammar.specs.declared.terminal.Terminal.TheVariants as k
+use Rattle.elm_base.specs.Lexemes.{Lexeme}
 use Rattle.grammar.specs.Spelling.{int_value, char_value, text_value, label_of}
 use Rattle.grammar.specs.Rules.{Rule, spelled, name, mark, nothing, ◌⊗◌, ◌▷◌, ◌◁◌, ◌∣◌, ◌<$>◌, many, some, separated, only, at_most_nine, at, linked, block}
 use Rattle.pattern_parser.specs.Types.{type_at}
@@ -36,6 +37,9 @@ accessed_at at whole (label ∷ labels) = accessed_at at (e.Access at whole labe
 
 abbrev pub accessed : At × (Expr × List (List ℕ)) → Expr
 accessed x = accessed_at x.0 x.1.0 x.1.1
+
+abbrev pub set_of : At × (List ℕ × Expr) → Set
+set_of x = roll-Set (record { at = x.0; label = x.1.0; value = x.1.1 })
 
 -- what brackets round these expressions make
 abbrev pub enclosed : At × List Expr → Expr
@@ -136,66 +140,70 @@ abbrev pub annotations_stand : List Declaration → Bool
 annotations_stand [] = true
 annotations_stand (x ∷ rest) = stands (annotated_name (out-Declaration x)) rest && annotations_stand rest
 
--- ---- rules, over the rule of a whole expression and the depth that is left for types and patterns
+-- ---- rules, over those of the level below
 
-module _ (depth : ℕ) (whole inner_atom : Rule Expr) where
+-- How deep types and patterns may nest, and the rules of a whole expression and of an atom that may stand inside.
+pub record Below : Type 1 where
+  pub depth : ℕ
+  pub whole : Rule Expr
+  pub atom : Rule Expr
+
+module _ (inner : Below) where
   abbrev pub pattern_ : Rule Pattern
-  pattern_ = patterns.whole (cons_at depth)
+  pattern_ = patterns.whole (cons_at inner.depth)
 
   abbrev pub parameter : Rule Pattern
-  parameter = patterns.part (cons_at depth)
+  parameter = patterns.part (cons_at inner.depth)
 
   -- a pattern that may stand left of `=`: brackets round no pattern or several, or labels
   abbrev pub compound : Rule Pattern
-  compound = only (λ x. not (is_brackets x)) (patterns.brackets (cons_at depth)) ∣ patterns.labels
+  compound = only (λ x. not (is_brackets x)) (patterns.brackets (cons_at inner.depth)) ∣ patterns.labels
 
   -- behind an opening bracket: no expression, one, or the parts of a tuple
   abbrev pub parts : Rule (At → Expr)
-  parts = (λ xs at. enclosed (at, xs)) <$> only at_most_nine (separated whole ∣ nothing []) ◁ mark k.RightParen
+  parts = (λ xs at. enclosed (at, xs)) <$> only at_most_nine (separated inner.whole ∣ nothing []) ◁ mark k.RightParen
 
   abbrev pub brackets : Rule Expr
   brackets = (λ x. x.1 x.0) <$> at (mark k.LeftParen ▷ (operator_name ∣ tuple_maker ∣ parts))
 
   -- behind the first expression in square brackets: the end of a range, or more parts
   abbrev pub behind_low : Rule (At → Expr → Expr)
-  behind_low = (λ high at low. e.Range at low high) <$> mark k.DotDot ▷ whole
+  behind_low = (λ high at low. e.Range at low high) <$> mark k.DotDot ▷ inner.whole
 
   abbrev pub behind_part : Rule (At → Expr → Expr)
-  behind_part = (λ parts at first. e.List at (first ∷ parts)) <$> many (mark k.Comma ▷ whole)
+  behind_part = (λ parts at first. e.List at (first ∷ parts)) <$> many (mark k.Comma ▷ inner.whole)
 
   abbrev pub inside_list : Rule (At → Expr)
-  inside_list = (λ x at. x.1 at x.0) <$> whole ⊗ (behind_low ∣ behind_part) ∣ nothing (λ at. e.List at [])
+  inside_list = (λ x at. x.1 at x.0) <$> inner.whole ⊗ (behind_low ∣ behind_part) ∣ nothing (λ at. e.List at [])
 
   abbrev pub list : Rule Expr
   list = (λ x. x.1 x.0) <$> at (mark k.LeftBracket ▷ inside_list ◁ mark k.RightBracket)
 
-  abbrev pub set : Rule Set
-  set = (λ x. roll-Set (record { at = x.0; label = x.1.0; value = x.1.1 })) <$> at (name k.Lower ⊗ mark k.Equals ▷ whole)
-
-  abbrev pub put : Rule Set
-  put = (λ x. roll-Set (record { at = x.0; label = x.1.0; value = x.1.1 })) <$> at (name k.Lower ⊗ mark k.LeftArrow ▷ whole)
+  -- a field and its value, with `=` between, or `<-` where the field is there already
+  abbrev pub set : Terminal → Rule Set
+  set symbol = set_of <$> at (name k.Lower ⊗ mark symbol ▷ inner.whole)
 
   abbrev pub access : Rule (List ℕ)
   access = spelled k.Access label_of
 
   abbrev pub fields : Rule (At → Expr)
-  fields = (λ sets at. e.Fields at sets) <$> separated set
+  fields = (λ sets at. e.Fields at sets) <$> separated (set k.Equals)
 
   -- behind the bar of a record: fields that are new, or fields that change
   abbrev pub extended : Rule (At → Expr → Expr)
-  extended = (λ sets at from. e.Extend at from sets) <$> separated set
+  extended = (λ sets at from. e.Extend at from sets) <$> separated (set k.Equals)
 
   abbrev pub updated : Rule (At → Expr → Expr)
-  updated = (λ sets at from. e.Update at from sets) <$> separated put
+  updated = (λ sets at from. e.Update at from sets) <$> separated (set k.LeftArrow)
 
   abbrev pub new_fields : Rule (List Set)
-  new_fields = mark k.Bar ▷ separated set ∣ nothing []
+  new_fields = mark k.Bar ▷ separated (set k.Equals) ∣ nothing []
 
   abbrev pub removed : Rule (At → Expr → Expr)
   removed = (λ x at from. e.Remove at from x.0 x.1) <$> mark k.Minus ▷ name k.Lower ⊗ new_fields
 
   abbrev pub over_record : Rule (At → Expr)
-  over_record = (λ x at. x.1 at x.0) <$> inner_atom ⊗ (mark k.Bar ▷ (extended ∣ updated) ∣ removed)
+  over_record = (λ x at. x.1 at x.0) <$> inner.atom ⊗ (mark k.Bar ▷ (extended ∣ updated) ∣ removed)
 
   abbrev pub inside_braces : Rule (At → Expr)
   inside_braces = (fields ∣ over_record) ∣ nothing (λ at. e.Fields at [])
@@ -208,7 +216,7 @@ module _ (depth : ℕ) (whole inner_atom : Rule Expr) where
 
   -- at most so many accesses as the depth has levels left
   abbrev pub atom : Rule Expr
-  atom = accessed <$> at (primary ⊗ only (λ labels. nat_le (length labels) depth) (many access))
+  atom = accessed <$> at (primary ⊗ only (λ labels. nat_le (length labels) inner.depth) (many access))
 
   abbrev pub application : Rule Expr
   application = applied <$> at (atom ⊗ many atom)
@@ -220,14 +228,14 @@ module _ (depth : ℕ) (whole inner_atom : Rule Expr) where
   operand = negation ∣ application
 
   abbrev pub lambda : Rule Expr
-  lambda = (λ x. e.Lambda x.0 x.1.0 x.1.1) <$> at (mark k.Backslash ▷ some parameter ⊗ mark k.Arrow ▷ whole)
+  lambda = (λ x. e.Lambda x.0 x.1.0 x.1.1) <$> at (mark k.Backslash ▷ some parameter ⊗ mark k.Arrow ▷ inner.whole)
 
   abbrev pub two_way : Rule (At → Expr)
-  two_way = (λ x at. e.If at x.0 x.1.0 x.1.1) <$> whole ⊗ (mark k.Then ▷ whole) ⊗ mark k.Else ▷ whole
+  two_way = (λ x at. e.If at x.0 x.1.0 x.1.1) <$> inner.whole ⊗ (mark k.Then ▷ inner.whole) ⊗ mark k.Else ▷ inner.whole
 
   -- a branch of a multi-way `if` doesn't end in another
   abbrev pub guard : Rule (Expr × Expr)
-  guard = (mark k.Bar ▷ whole) ⊗ mark k.Arrow ▷ only (λ x. not (ends_in_guards x)) whole
+  guard = (mark k.Bar ▷ inner.whole) ⊗ mark k.Arrow ▷ only (λ x. not (ends_in_guards x)) inner.whole
 
   abbrev pub multi_way : Rule (At → Expr)
   multi_way = (λ branches at. e.Guards at branches) <$> some guard
@@ -237,28 +245,28 @@ module _ (depth : ℕ) (whole inner_atom : Rule Expr) where
 
   -- behind the name of a definition
   abbrev pub annotated : Rule (At → List ℕ → Declaration)
-  annotated = (λ written at name. d.Annotation at name written) <$> mark k.Colon ▷ type_at depth
+  annotated = (λ written at name. d.Annotation at name written) <$> mark k.Colon ▷ type_at inner.depth
 
   abbrev pub defined : Rule (At → List ℕ → Declaration)
-  defined = (λ x at name. d.Definition at name x.0 x.1) <$> many parameter ⊗ mark k.Equals ▷ whole
+  defined = (λ x at name. d.Definition at name x.0 x.1) <$> many parameter ⊗ mark k.Equals ▷ inner.whole
 
   abbrev pub named_definition : Rule Declaration
   named_definition = (λ x. x.1.1 x.0 x.1.0) <$> at (name k.Lower ⊗ (annotated ∣ defined))
 
   abbrev pub pattern_definition : Rule Declaration
-  pattern_definition = (λ x. d.PatternDefinition x.0 x.1.0 x.1.1) <$> at (compound ⊗ mark k.Equals ▷ whole)
+  pattern_definition = (λ x. d.PatternDefinition x.0 x.1.0 x.1.1) <$> at (compound ⊗ mark k.Equals ▷ inner.whole)
 
   abbrev pub definition : Rule Declaration
   definition = named_definition ∣ pattern_definition
 
   abbrev pub let_in : Rule Expr
-  let_in = (λ x. e.Let x.0 x.1.0 x.1.1) <$> at (mark k.Let ▷ only annotations_stand (block definition) ⊗ mark k.In ▷ whole)
+  let_in = (λ x. e.Let x.0 x.1.0 x.1.1) <$> at (mark k.Let ▷ only annotations_stand (block definition) ⊗ mark k.In ▷ inner.whole)
 
   abbrev pub branch : Rule (Pattern × Expr)
-  branch = pattern_ ⊗ mark k.Arrow ▷ whole
+  branch = pattern_ ⊗ mark k.Arrow ▷ inner.whole
 
   abbrev pub case_of : Rule Expr
-  case_of = (λ x. e.Case x.0 x.1.0 x.1.1) <$> at (mark k.Case ▷ whole ⊗ mark k.Of ▷ block branch)
+  case_of = (λ x. e.Case x.0 x.1.0 x.1.1) <$> at (mark k.Case ▷ inner.whole ⊗ mark k.Of ▷ block branch)
 
   -- a form that takes all that stands behind it, so it stands last in a chain
   abbrev pub last_form : Rule Expr
@@ -273,8 +281,8 @@ module _ (depth : ℕ) (whole inner_atom : Rule Expr) where
 -- An expression, or an atom alone, that needs at most so many of these inside each other.
 unfoldable pub tree_at : Bool → ℕ → Rule Expr
 tree_at alone zero ts x = ⊥
-tree_at true (suc depth) ts x = atom depth (tree_at false depth) (tree_at true depth) ts x
-tree_at false (suc depth) ts x = level depth (tree_at false depth) (tree_at true depth) ts x
+tree_at true (suc depth) ts x = atom (record { depth = depth; whole = tree_at false depth; atom = tree_at true depth }) ts x
+tree_at false (suc depth) ts x = level (record { depth = depth; whole = tree_at false depth; atom = tree_at true depth }) ts x
 
 -- all of the tokens stand for the expression
 abbrev pub DerivesExpr : List Lexeme → Expr → Type 0

@@ -10,18 +10,21 @@ use Rattle.grammar.specs.Terminals.{same_terminal}
 use Rattle.grammar.specs.Spelling.{int_value, char_value, text_value, label_of}
 use Rattle.grammar.specs.Rules as rule
 use Rattle.grammar.specs.Rules.{Rule, at_most_nine}
+use Rattle.grammar.specs.Reader as reader
 use Rattle.grammar.specs.Reader.{Parser}
+use Rattle.grammar.specs.Lists as lists
 use Rattle.pattern_parser.specs.PatternReader.{patterns_begin}
-use Rattle.expr_parser.specs.Expressions as g
-use Rattle.expr_parser.specs.Expressions.{is_brackets, ends_in_guards, annotations_stand}
-use Rattle.expr_parser.specs.ExprReader as m
-use Rattle.expr_parser.specs.ExprReader.{atoms_begin, signs_begin, operators_begin, operands_begin, last_forms_begin, expressions_begin, definitions_begin}
+use Rattle.expr_grammar.specs.Expressions as g
+use Rattle.expr_grammar.specs.Expressions.{is_brackets, ends_in_guards, annotations_stand}
+use Rattle.expr_grammar.specs.ExprReader as m
+use Rattle.expr_grammar.specs.ExprReader.{atoms_begin, signs_begin, operators_begin, operands_begin, last_forms_begin, expressions_begin, definitions_begin}
 use Rattle.grammar.proofs.Laws.{Reading, seq, by, within, spelled, name, mark, nothing, either, only, at, many}
+use Rattle.grammar.proofs.ListLaws.{some, separated}
 use Rattle.grammar.proofs.Columns.{block, block_ends}
 use Rattle.grammar.proofs.Links.{linked, linked_ends}
 use Rattle.grammar.proofs.Ends as ends
 use Rattle.grammar.proofs.Ends.{Ends, Last, behind}
-use Rattle.expr_parser.proofs.GuardLaws.{Closed, lambda_closed, if_closed, guards_closed, let_closed, case_closed, chain_closed}
+use Rattle.expr_grammar.proofs.GuardLaws.{Closed, lambda_closed, if_closed, guards_closed, let_closed, case_closed, chain_closed}
 use Rattle.grammar.proofs.Follows as follows
 use Rattle.grammar.proofs.Follows.{Follows, either_two}
 use Rattle.pattern_parser.proofs.TypeReadings as type_readings
@@ -86,7 +89,7 @@ operator_name_closes = follows.by _ (follows.by _ (follows.seq sign_reads sign_a
 
 pub commas_read : Reading (rule.only (λ commas. nat_le (length commas) 8) (rule.some (rule.mark k.Comma))) m.commas false (k.Comma ∷ []) (k.Comma ∷ [])
 unfolding m.commas same_terminal
-commas_read = within (only _ (by _ (seq (mark k.Comma) (many (mark k.Comma) refl) refl))) refl refl
+commas_read = within (only _ (some (mark k.Comma) refl refl)) refl refl
 
 pub tuple_maker_reads : Reading g.tuple_maker m.tuple_maker false (k.Comma ∷ []) []
 unfolding m.tuple_maker same_terminal
@@ -108,159 +111,163 @@ goes_on = k.Bar ∷ closed_goes_on
 module _ (depth : ℕ) {W I : Rule Expr} {w i : Parser Expr} (r : Reading W w false expressions_begin goes_on) (closed : Ends W w Closed closed_goes_on)
     (signed : Follows W signs_begin false atoms_begin) (inner : Reading I i false atoms_begin (k.Access ∷ []))
     (named : Follows I (k.Lower ∷ []) true (k.Access ∷ [])) where
-  pub pattern_reads : Reading (g.pattern_ depth W I) (m.pattern_ depth w i) false patterns_begin pattern_readings.goes_on
-  unfolding m.pattern_
+  abbrev pub G : g.Below
+  G = record { depth = depth; whole = W; atom = I }
+
+  abbrev pub M : m.Below
+  M = record { depth = depth; whole = w; atom = i }
+
+  pub pattern_reads : Reading (g.pattern_ G) (m.pattern_ M) false patterns_begin pattern_readings.goes_on
   pattern_reads = pattern_readings.whole_reads (cons_reads depth)
 
-  pub parameter_reads : Reading (g.parameter depth W I) (m.parameter depth w i) false patterns_begin []
-  unfolding m.parameter
+  pub parameter_reads : Reading (g.parameter G) (m.parameter M) false patterns_begin []
   parameter_reads = pattern_readings.part_reads (cons_reads depth)
 
-  pub parameters_read : Reading (rule.many (g.parameter depth W I)) (m.parameters depth w i) true patterns_begin patterns_begin
-  unfolding m.parameters same_terminal
+  pub parameters_read : Reading (rule.many (g.parameter G)) (reader.many patterns_begin (m.parameter M)) true patterns_begin patterns_begin
+  unfolding same_terminal
   parameters_read = within (many parameter_reads refl) refl refl
 
-  pub compound_reads : Reading (g.compound depth W I) (m.compound depth w i) false (k.LeftParen ∷ k.LeftBrace ∷ []) []
+  pub some_parameters_read : Reading (rule.some (g.parameter G)) (lists.some patterns_begin (m.parameter M)) false patterns_begin patterns_begin
+  unfolding same_terminal
+  some_parameters_read = within (some parameter_reads refl refl) refl refl
+
+  pub compound_reads : Reading (g.compound G) (m.compound M) false (k.LeftParen ∷ k.LeftBrace ∷ []) []
   unfolding m.compound same_terminal
   compound_reads = within (either (only (λ x. not (is_brackets x)) (pattern_readings.brackets_read (cons_reads depth))) pattern_readings.labels_read refl) refl refl
 
-  pub next_reads : Reading (rule.◌▷◌ (rule.mark k.Comma) W) (m.next depth w i) false (k.Comma ∷ []) goes_on
-  unfolding m.next same_terminal
-  next_reads = within (by _ (seq (mark k.Comma) r refl)) refl refl
+  pub more_reads : Reading (rule.many (rule.◌▷◌ (rule.mark k.Comma) W)) (m.more M) true (k.Comma ∷ []) (k.Comma ∷ goes_on)
+  unfolding same_terminal
+  more_reads = within (many (by _ (seq (mark k.Comma) r refl)) refl) refl refl
 
-  pub more_reads : Reading (rule.many (rule.◌▷◌ (rule.mark k.Comma) W)) (m.more depth w i) true (k.Comma ∷ []) (k.Comma ∷ goes_on)
-  unfolding m.more same_terminal
-  more_reads = within (many next_reads refl) refl refl
-
-  pub any_parts_read : Reading (rule.only at_most_nine (rule.◌∣◌ (rule.separated W) (rule.nothing []))) (m.any_parts depth w i) true expressions_begin (k.Comma ∷ expressions_begin ++ goes_on)
+  pub any_parts_read : Reading (rule.only at_most_nine (rule.◌∣◌ (rule.separated W) (rule.nothing []))) (m.any_parts M) true expressions_begin (k.Comma ∷ expressions_begin ++ goes_on)
   unfolding m.any_parts same_terminal
-  any_parts_read = within (only at_most_nine (either (by _ (seq r more_reads refl)) (nothing []) refl)) refl refl
+  any_parts_read = within (only at_most_nine (either (separated r refl refl) (nothing []) refl)) refl refl
 
-  pub parts_read : Reading (g.parts depth W I) (m.parts depth w i) false (k.RightParen ∷ expressions_begin) []
+  pub parts_read : Reading (g.parts G) (m.parts M) false (k.RightParen ∷ expressions_begin) []
   unfolding m.parts same_terminal
   parts_read = within (by _ (by _ (seq any_parts_read (mark k.RightParen) refl))) refl refl
 
   -- an expression in brackets that begins with a sign goes on with an atom
-  parts_signed : Follows (g.parts depth W I) signs_begin false atoms_begin
+  parts_signed : Follows (g.parts G) signs_begin false atoms_begin
   unfolding same_terminal
   parts_signed =
       follows.within (follows.by _ (follows.by _ (follows.seq_any (follows.only at_most_nine (follows.either (follows.by _ (follows.seq r signed more_reads)) (follows.nothing [])))
       (mark k.RightParen) refl))) refl
 
-  pub inside_brackets_read : Reading (rule.◌∣◌ g.operator_name (rule.◌∣◌ g.tuple_maker (g.parts depth W I))) (m.inside_brackets depth w i) false
+  pub inside_brackets_read : Reading (rule.◌∣◌ g.operator_name (rule.◌∣◌ g.tuple_maker (g.parts G))) (m.inside_brackets M) false
       (k.Comma ∷ k.RightParen ∷ k.Operator ∷ k.Cons ∷ expressions_begin) []
   unfolding m.inside_brackets same_terminal
   inside_brackets_read =
       within (either_two signs_begin (k.RightParen ∷ []) operator_name_reads operator_name_closes (either tuple_maker_reads parts_read refl)
       (follows.either (follows.never tuple_maker_reads refl) parts_signed) refl refl) refl refl
 
-  pub brackets_read : Reading (g.brackets depth W I) (m.brackets depth w i) false (k.LeftParen ∷ []) []
+  pub brackets_read : Reading (g.brackets G) (m.brackets M) false (k.LeftParen ∷ []) []
   unfolding m.brackets same_terminal
   brackets_read = within (by _ (at (by _ (seq (mark k.LeftParen) inside_brackets_read refl)))) refl refl
 
-  pub behind_low_reads : Reading (g.behind_low depth W I) (m.behind_low depth w i) false (k.DotDot ∷ []) goes_on
+  pub behind_low_reads : Reading (g.behind_low G) (m.behind_low M) false (k.DotDot ∷ []) goes_on
   unfolding m.behind_low same_terminal
   behind_low_reads = within (by _ (by _ (seq (mark k.DotDot) r refl))) refl refl
 
-  pub behind_part_reads : Reading (g.behind_part depth W I) (m.behind_part depth w i) true (k.Comma ∷ []) (k.Comma ∷ goes_on)
+  pub behind_part_reads : Reading (g.behind_part G) (m.behind_part M) true (k.Comma ∷ []) (k.Comma ∷ goes_on)
   unfolding m.behind_part same_terminal
   behind_part_reads = within (by _ more_reads) refl refl
 
-  pub inside_list_reads : Reading (g.inside_list depth W I) (m.inside_list depth w i) true expressions_begin (k.DotDot ∷ k.Comma ∷ expressions_begin ++ goes_on)
+  pub inside_list_reads : Reading (g.inside_list G) (m.inside_list M) true expressions_begin (k.DotDot ∷ k.Comma ∷ expressions_begin ++ goes_on)
   unfolding m.inside_list same_terminal
   inside_list_reads = within (either (by _ (seq r (either behind_low_reads behind_part_reads refl) refl)) (nothing _) refl) refl refl
 
-  pub list_reads : Reading (g.list depth W I) (m.list depth w i) false (k.LeftBracket ∷ []) []
+  pub list_reads : Reading (g.list G) (m.list M) false (k.LeftBracket ∷ []) []
   unfolding m.list same_terminal
   list_reads = within (by _ (at (by _ (seq (mark k.LeftBracket) (by _ (seq inside_list_reads (mark k.RightBracket) refl)) refl)))) refl refl
 
   -- ---- records
 
-  pub set_reads : Reading (g.set depth W I) (m.set depth w i) false (k.Lower ∷ []) goes_on
+  pub equal_reads : Reading (g.set G k.Equals) (m.set M k.Equals) false (k.Lower ∷ []) goes_on
   unfolding m.set same_terminal
-  set_reads = within (by _ (at (seq (name k.Lower) (by _ (seq (mark k.Equals) r refl)) refl))) refl refl
+  equal_reads = within (by _ (at (seq (name k.Lower) (by _ (seq (mark k.Equals) r refl)) refl))) refl refl
 
-  pub sets_read : Reading (rule.separated (g.set depth W I)) (m.sets depth w i) false (k.Lower ∷ []) (k.Comma ∷ goes_on)
-  unfolding m.sets m.next_set same_terminal
-  sets_read = within (by _ (seq set_reads (many (by _ (seq (mark k.Comma) set_reads refl)) refl) refl)) refl refl
+  pub equals_read : Reading (rule.separated (g.set G k.Equals)) (m.sets M k.Equals) false (k.Lower ∷ []) (k.Comma ∷ goes_on)
+  unfolding same_terminal
+  equals_read = within (separated equal_reads refl refl) refl refl
 
-  pub put_reads : Reading (g.put depth W I) (m.put depth w i) false (k.Lower ∷ []) goes_on
-  unfolding m.put same_terminal
-  put_reads = within (by _ (at (seq (name k.Lower) (by _ (seq (mark k.LeftArrow) r refl)) refl))) refl refl
+  pub arrow_reads : Reading (g.set G k.LeftArrow) (m.set M k.LeftArrow) false (k.Lower ∷ []) goes_on
+  unfolding m.set same_terminal
+  arrow_reads = within (by _ (at (seq (name k.Lower) (by _ (seq (mark k.LeftArrow) r refl)) refl))) refl refl
 
-  pub puts_read : Reading (rule.separated (g.put depth W I)) (m.puts depth w i) false (k.Lower ∷ []) (k.Comma ∷ goes_on)
-  unfolding m.puts m.next_put same_terminal
-  puts_read = within (by _ (seq put_reads (many (by _ (seq (mark k.Comma) put_reads refl)) refl) refl)) refl refl
+  pub arrows_read : Reading (rule.separated (g.set G k.LeftArrow)) (m.sets M k.LeftArrow) false (k.Lower ∷ []) (k.Comma ∷ goes_on)
+  unfolding same_terminal
+  arrows_read = within (separated arrow_reads refl refl) refl refl
 
-  pub fields_read : Reading (g.fields depth W I) (m.fields depth w i) false (k.Lower ∷ []) (k.Comma ∷ goes_on)
+  pub fields_read : Reading (g.fields G) (m.fields M) false (k.Lower ∷ []) (k.Comma ∷ goes_on)
   unfolding m.fields same_terminal
-  fields_read = within (by _ sets_read) refl refl
+  fields_read = within (by _ equals_read) refl refl
 
-  pub extended_reads : Reading (g.extended depth W I) (m.extended depth w i) false (k.Lower ∷ []) (k.Comma ∷ goes_on)
+  pub extended_reads : Reading (g.extended G) (m.extended M) false (k.Lower ∷ []) (k.Comma ∷ goes_on)
   unfolding m.extended same_terminal
-  extended_reads = within (by _ sets_read) refl refl
+  extended_reads = within (by _ equals_read) refl refl
 
-  pub updated_reads : Reading (g.updated depth W I) (m.updated depth w i) false (k.Lower ∷ []) (k.Comma ∷ goes_on)
+  pub updated_reads : Reading (g.updated G) (m.updated M) false (k.Lower ∷ []) (k.Comma ∷ goes_on)
   unfolding m.updated same_terminal
-  updated_reads = within (by _ puts_read) refl refl
+  updated_reads = within (by _ arrows_read) refl refl
 
   -- a name with `=` or with `<-` behind it
-  sets_equal : Follows (rule.separated (g.set depth W I)) (k.Lower ∷ []) false (k.Equals ∷ [])
+  sets_equal : Follows (rule.separated (g.set G k.Equals)) (k.Lower ∷ []) false (k.Equals ∷ [])
   unfolding same_terminal
   sets_equal =
-      follows.by _ (follows.seq set_reads (follows.by _ (follows.at (follows.seq (name k.Lower) (follows.one k.Lower _) (by _ (seq (mark k.Equals) r refl)))))
-      (many (by _ (seq (mark k.Comma) set_reads refl)) refl))
+      follows.by _ (follows.seq equal_reads (follows.by _ (follows.at (follows.seq (name k.Lower) (follows.one k.Lower _) (by _ (seq (mark k.Equals) r refl)))))
+      (many (by _ (seq (mark k.Comma) equal_reads refl)) refl))
 
-  puts_point : Follows (rule.separated (g.put depth W I)) (k.Lower ∷ []) false (k.LeftArrow ∷ [])
+  sets_point : Follows (rule.separated (g.set G k.LeftArrow)) (k.Lower ∷ []) false (k.LeftArrow ∷ [])
   unfolding same_terminal
-  puts_point =
-      follows.by _ (follows.seq put_reads (follows.by _ (follows.at (follows.seq (name k.Lower) (follows.one k.Lower _) (by _ (seq (mark k.LeftArrow) r refl)))))
-      (many (by _ (seq (mark k.Comma) put_reads refl)) refl))
+  sets_point =
+      follows.by _ (follows.seq arrow_reads (follows.by _ (follows.at (follows.seq (name k.Lower) (follows.one k.Lower _) (by _ (seq (mark k.LeftArrow) r refl)))))
+      (many (by _ (seq (mark k.Comma) arrow_reads refl)) refl))
 
-  pub behind_bar_reads : Reading (rule.◌▷◌ (rule.mark k.Bar) (rule.◌∣◌ (g.extended depth W I) (g.updated depth W I))) (m.behind_bar depth w i) false (k.Bar ∷ []) (k.Comma ∷ goes_on)
+  pub behind_bar_reads : Reading (rule.◌▷◌ (rule.mark k.Bar) (rule.◌∣◌ (g.extended G) (g.updated G))) (m.behind_bar M) false (k.Bar ∷ []) (k.Comma ∷ goes_on)
   unfolding m.behind_bar same_terminal
   behind_bar_reads =
       within (by _ (seq (mark k.Bar)
-      (either_two (k.Lower ∷ []) (k.Equals ∷ []) extended_reads (follows.by _ sets_equal) updated_reads (follows.by _ puts_point) refl refl) refl)) refl refl
+      (either_two (k.Lower ∷ []) (k.Equals ∷ []) extended_reads (follows.by _ sets_equal) updated_reads (follows.by _ sets_point) refl refl) refl)) refl refl
 
-  pub new_fields_read : Reading (g.new_fields depth W I) (m.new_fields depth w i) true (k.Bar ∷ []) (k.Comma ∷ goes_on)
+  pub new_fields_read : Reading (g.new_fields G) (m.new_fields M) true (k.Bar ∷ []) (k.Comma ∷ goes_on)
   unfolding m.new_fields same_terminal
-  new_fields_read = within (either (by _ (seq (mark k.Bar) sets_read refl)) (nothing []) refl) refl refl
+  new_fields_read = within (either (by _ (seq (mark k.Bar) equals_read refl)) (nothing []) refl) refl refl
 
-  pub removed_reads : Reading (g.removed depth W I) (m.removed depth w i) false (k.Minus ∷ []) (k.Comma ∷ goes_on)
+  pub removed_reads : Reading (g.removed G) (m.removed M) false (k.Minus ∷ []) (k.Comma ∷ goes_on)
   unfolding m.removed same_terminal
   removed_reads = within (by _ (by _ (seq (mark k.Minus) (seq (name k.Lower) new_fields_read refl) refl))) refl refl
 
-  pub over_record_reads : Reading (g.over_record depth W I) (m.over_record depth w i) false atoms_begin (k.Comma ∷ goes_on)
+  pub over_record_reads : Reading (g.over_record G) (m.over_record M) false atoms_begin (k.Comma ∷ goes_on)
   unfolding m.over_record same_terminal
   over_record_reads = within (by _ (seq inner (either behind_bar_reads removed_reads refl) refl)) refl refl
 
-  over_record_named : Follows (g.over_record depth W I) (k.Lower ∷ []) false (k.Access ∷ k.Bar ∷ k.Minus ∷ [])
+  over_record_named : Follows (g.over_record G) (k.Lower ∷ []) false (k.Access ∷ k.Bar ∷ k.Minus ∷ [])
   unfolding same_terminal
   over_record_named = follows.within (follows.by _ (follows.seq inner named (either behind_bar_reads removed_reads refl))) refl
 
-  pub filled_braces_read : Reading (rule.◌∣◌ (g.fields depth W I) (g.over_record depth W I)) (m.filled_braces depth w i) false atoms_begin (k.Comma ∷ goes_on)
+  pub filled_braces_read : Reading (rule.◌∣◌ (g.fields G) (g.over_record G)) (m.filled_braces M) false atoms_begin (k.Comma ∷ goes_on)
   unfolding m.filled_braces same_terminal
   filled_braces_read =
       within (either_two (k.Lower ∷ []) (k.Equals ∷ []) fields_read (follows.by _ sets_equal) over_record_reads over_record_named refl refl) refl refl
 
-  pub inside_braces_read : Reading (g.inside_braces depth W I) (m.inside_braces depth w i) true atoms_begin (k.Comma ∷ goes_on)
+  pub inside_braces_read : Reading (g.inside_braces G) (m.inside_braces M) true atoms_begin (k.Comma ∷ goes_on)
   unfolding m.inside_braces same_terminal
   inside_braces_read = within (either filled_braces_read (nothing _) refl) refl refl
 
-  pub braces_read : Reading (g.braces depth W I) (m.braces depth w i) false (k.LeftBrace ∷ []) []
+  pub braces_read : Reading (g.braces G) (m.braces M) false (k.LeftBrace ∷ []) []
   unfolding m.braces same_terminal
   braces_read = within (by _ (at (by _ (seq (mark k.LeftBrace) (by _ (seq inside_braces_read (mark k.RightBrace) refl)) refl)))) refl refl
 
   -- ---- atoms and applications
 
-  pub primary_reads : Reading (g.primary depth W I) (m.primary depth w i) false atoms_begin []
+  pub primary_reads : Reading (g.primary G) (m.primary M) false atoms_begin []
   unfolding m.primary same_terminal
   primary_reads =
       within (either int_reads (either char_reads (either text_reads (either variable_reads (either constructor_reads (either field_function_reads
       (either brackets_read (either list_reads braces_read refl) refl) refl) refl) refl) refl) refl) refl) refl refl
 
-  primary_named : Follows (g.primary depth W I) (k.Lower ∷ []) true []
+  primary_named : Follows (g.primary G) (k.Lower ∷ []) true []
   unfolding same_terminal
   primary_named =
       follows.either (follows.never int_reads refl) (follows.either (follows.never char_reads refl) (follows.either (follows.never text_reads refl)
@@ -268,154 +275,154 @@ module _ (depth : ℕ) {W I : Rule Expr} {w i : Parser Expr} (r : Reading W w fa
       (follows.either (follows.never constructor_reads refl) (follows.either (follows.never field_function_reads refl)
       (follows.either (follows.never brackets_read refl) (follows.either (follows.never list_reads refl) (follows.never braces_read refl))))))))
 
-  pub accesses_read : Reading (rule.only (λ labels. nat_le (length labels) depth) (rule.many (g.access depth W I))) (m.accesses depth w i) true (k.Access ∷ []) (k.Access ∷ [])
+  pub accesses_read : Reading (rule.only (λ labels. nat_le (length labels) depth) (rule.many (g.access G))) (m.accesses M) true (k.Access ∷ []) (k.Access ∷ [])
   unfolding m.accesses same_terminal
   accesses_read = within (only _ (many (spelled k.Access label_of) refl)) refl refl
 
-  pub atom_reads : Reading (g.atom depth W I) (m.atom depth w i) false atoms_begin (k.Access ∷ [])
+  pub atom_reads : Reading (g.atom G) (m.atom M) false atoms_begin (k.Access ∷ [])
   unfolding m.atom same_terminal
   atom_reads = within (by _ (at (seq primary_reads accesses_read refl))) refl refl
 
   -- an atom that begins with a name is the name, or goes on with an access
-  pub atom_named : Follows (g.atom depth W I) (k.Lower ∷ []) true (k.Access ∷ [])
+  pub atom_named : Follows (g.atom G) (k.Lower ∷ []) true (k.Access ∷ [])
   atom_named = follows.by _ (follows.at (follows.seq primary_reads primary_named accesses_read))
 
-  pub application_reads : Reading (g.application depth W I) (m.application depth w i) false atoms_begin application_goes_on
+  pub application_reads : Reading (g.application G) (m.application M) false atoms_begin application_goes_on
   unfolding m.application same_terminal
   application_reads = within (by _ (at (seq atom_reads (many atom_reads refl) refl))) refl refl
 
-  pub negation_reads : Reading (g.negation depth W I) (m.negation depth w i) false (k.Minus ∷ []) application_goes_on
+  pub negation_reads : Reading (g.negation G) (m.negation M) false (k.Minus ∷ []) application_goes_on
   unfolding m.negation same_terminal
   negation_reads = within (by _ (at (by _ (seq (mark k.Minus) application_reads refl)))) refl refl
 
-  negation_signed : Follows (g.negation depth W I) signs_begin false atoms_begin
+  negation_signed : Follows (g.negation G) signs_begin false atoms_begin
   negation_signed = follows.by _ (follows.at (follows.by _ (follows.seq (mark k.Minus) (follows.one k.Minus _) application_reads)))
 
-  pub operand_reads : Reading (g.operand depth W I) (m.operand depth w i) false operands_begin application_goes_on
+  pub operand_reads : Reading (g.operand G) (m.operand M) false operands_begin application_goes_on
   unfolding m.operand same_terminal
   operand_reads = within (either negation_reads application_reads refl) refl refl
 
-  operand_signed : Follows (g.operand depth W I) signs_begin false atoms_begin
+  operand_signed : Follows (g.operand G) signs_begin false atoms_begin
   unfolding same_terminal
   operand_signed = follows.either negation_signed (follows.never application_reads refl)
 
   -- ---- the forms that take all behind them
 
-  pub lambda_reads : Reading (g.lambda depth W I) (m.lambda depth w i) false (k.Backslash ∷ []) goes_on
-  unfolding m.lambda m.some_parameters same_terminal
+  pub lambda_reads : Reading (g.lambda G) (m.lambda M) false (k.Backslash ∷ []) goes_on
+  unfolding m.lambda same_terminal
   lambda_reads =
-      within (by _ (at (by _ (seq (mark k.Backslash) (seq (by _ (seq parameter_reads parameters_read refl)) (by _ (seq (mark k.Arrow) r refl)) refl) refl)))) refl refl
+      within (by _ (at (by _ (seq (mark k.Backslash) (seq some_parameters_read (by _ (seq (mark k.Arrow) r refl)) refl) refl)))) refl refl
 
-  pub two_way_reads : Reading (g.two_way depth W I) (m.two_way depth w i) false expressions_begin goes_on
+  pub two_way_reads : Reading (g.two_way G) (m.two_way M) false expressions_begin goes_on
   unfolding m.two_way same_terminal
   two_way_reads = within (by _ (seq r (seq (by _ (seq (mark k.Then) r refl)) (by _ (seq (mark k.Else) r refl)) refl) refl)) refl refl
 
-  pub guard_reads : Reading (g.guard depth W I) (m.guard depth w i) false (k.Bar ∷ []) closed_goes_on
+  pub guard_reads : Reading (g.guard G) (m.guard M) false (k.Bar ∷ []) closed_goes_on
   unfolding m.guard same_terminal
   guard_reads =
       within (seq (by _ (seq (mark k.Bar) r refl)) (by _ (seq (mark k.Arrow) (ends.only (λ x. not (ends_in_guards x)) r closed) refl)) refl) refl refl
 
-  pub multi_way_reads : Reading (g.multi_way depth W I) (m.multi_way depth w i) false (k.Bar ∷ []) goes_on
-  unfolding m.multi_way m.guards same_terminal
-  multi_way_reads = within (by _ (by _ (seq guard_reads (many guard_reads refl) refl))) refl refl
+  pub multi_way_reads : Reading (g.multi_way G) (m.multi_way M) false (k.Bar ∷ []) goes_on
+  unfolding m.multi_way same_terminal
+  multi_way_reads = within (by _ (some guard_reads refl refl)) refl refl
 
-  pub conditional_reads : Reading (g.conditional depth W I) (m.conditional depth w i) false (k.If ∷ []) goes_on
+  pub conditional_reads : Reading (g.conditional G) (m.conditional M) false (k.If ∷ []) goes_on
   unfolding m.conditional same_terminal
   conditional_reads = within (by _ (at (by _ (seq (mark k.If) (either two_way_reads multi_way_reads refl) refl)))) refl refl
 
   -- ---- definitions
 
-  pub annotated_reads : Reading (g.annotated depth W I) (m.annotated depth w i) false (k.Colon ∷ []) type_readings.go_on
+  pub annotated_reads : Reading (g.annotated G) (m.annotated M) false (k.Colon ∷ []) type_readings.go_on
   unfolding m.annotated same_terminal
   annotated_reads = within (by _ (by _ (seq (mark k.Colon) (type_reads depth) refl))) refl refl
 
-  pub defined_reads : Reading (g.defined depth W I) (m.defined depth w i) false (k.Equals ∷ patterns_begin) goes_on
+  pub defined_reads : Reading (g.defined G) (m.defined M) false (k.Equals ∷ patterns_begin) goes_on
   unfolding m.defined same_terminal
   defined_reads = within (by _ (seq parameters_read (by _ (seq (mark k.Equals) r refl)) refl)) refl refl
 
-  pub named_definition_reads : Reading (g.named_definition depth W I) (m.named_definition depth w i) false (k.Lower ∷ []) (k.Arrow ∷ goes_on)
+  pub named_definition_reads : Reading (g.named_definition G) (m.named_definition M) false (k.Lower ∷ []) (k.Arrow ∷ goes_on)
   unfolding m.named_definition same_terminal
   named_definition_reads = within (by _ (at (seq (name k.Lower) (either annotated_reads defined_reads refl) refl))) refl refl
 
-  pub pattern_definition_reads : Reading (g.pattern_definition depth W I) (m.pattern_definition depth w i) false (k.LeftParen ∷ k.LeftBrace ∷ []) goes_on
+  pub pattern_definition_reads : Reading (g.pattern_definition G) (m.pattern_definition M) false (k.LeftParen ∷ k.LeftBrace ∷ []) goes_on
   unfolding m.pattern_definition same_terminal
   pattern_definition_reads = within (by _ (at (seq compound_reads (by _ (seq (mark k.Equals) r refl)) refl))) refl refl
 
-  pub definition_reads : Reading (g.definition depth W I) (m.definition depth w i) false definitions_begin (k.Arrow ∷ goes_on)
+  pub definition_reads : Reading (g.definition G) (m.definition M) false definitions_begin (k.Arrow ∷ goes_on)
   unfolding m.definition same_terminal
   definition_reads = within (either named_definition_reads pattern_definition_reads refl) refl refl
 
-  pub definitions_read : Reading (rule.only annotations_stand (rule.block (g.definition depth W I))) (m.definitions depth w i) false definitions_begin (k.Arrow ∷ goes_on)
+  pub definitions_read : Reading (rule.only annotations_stand (rule.block (g.definition G))) (m.definitions M) false definitions_begin (k.Arrow ∷ goes_on)
   unfolding m.definitions same_terminal
   definitions_read = within (only annotations_stand (block definition_reads)) refl refl
 
-  pub let_in_reads : Reading (g.let_in depth W I) (m.let_in depth w i) false (k.Let ∷ []) goes_on
+  pub let_in_reads : Reading (g.let_in G) (m.let_in M) false (k.Let ∷ []) goes_on
   unfolding m.let_in same_terminal
   let_in_reads = within (by _ (at (by _ (seq (mark k.Let) (seq definitions_read (by _ (seq (mark k.In) r refl)) refl) refl)))) refl refl
 
-  pub branch_reads : Reading (g.branch depth W I) (m.branch depth w i) false patterns_begin goes_on
+  pub branch_reads : Reading (g.branch G) (m.branch M) false patterns_begin goes_on
   unfolding m.branch same_terminal
   branch_reads = within (seq pattern_reads (by _ (seq (mark k.Arrow) r refl)) refl) refl refl
 
-  pub case_of_reads : Reading (g.case_of depth W I) (m.case_of depth w i) false (k.Case ∷ []) goes_on
+  pub case_of_reads : Reading (g.case_of G) (m.case_of M) false (k.Case ∷ []) goes_on
   unfolding m.case_of same_terminal
   case_of_reads = within (by _ (at (by _ (seq (mark k.Case) (seq r (by _ (seq (mark k.Of) (block branch_reads) refl)) refl) refl)))) refl refl
 
-  pub last_form_reads : Reading (g.last_form depth W I) (m.last_form depth w i) false last_forms_begin goes_on
+  pub last_form_reads : Reading (g.last_form G) (m.last_form M) false last_forms_begin goes_on
   unfolding m.last_form same_terminal
   last_form_reads = within (either lambda_reads (either conditional_reads (either let_in_reads case_of_reads refl) refl) refl) refl refl
 
   -- ---- the whole
 
-  pub links_read : Reading (rule.linked g.operator (g.operand depth W I) (g.last_form depth W I)) (m.links depth w i) true operators_begin goes_on
+  pub links_read : Reading (rule.linked g.operator (g.operand G) (g.last_form G)) (m.links M) true operators_begin goes_on
   unfolding m.links same_terminal
   links_read = within (linked operator_reads operand_reads last_form_reads refl refl refl refl) refl refl
 
-  pub chain_reads : Reading (g.chain depth W I) (m.chain depth w i) false operands_begin goes_on
+  pub chain_reads : Reading (g.chain G) (m.chain M) false operands_begin goes_on
   unfolding m.chain same_terminal
   chain_reads = within (by _ (at (seq operand_reads links_read refl))) refl refl
 
-  pub level_reads : Reading (g.level depth W I) (m.level depth w i) false expressions_begin goes_on
+  pub level_reads : Reading (g.level G) (m.level M) false expressions_begin goes_on
   unfolding m.level same_terminal
   level_reads = within (either last_form_reads chain_reads refl) refl refl
 
   -- an expression that begins with a sign goes on with an atom
-  pub level_signed : Follows (g.level depth W I) signs_begin false atoms_begin
+  pub level_signed : Follows (g.level G) signs_begin false atoms_begin
   unfolding same_terminal
   level_signed = follows.either (follows.never last_form_reads refl) (follows.by _ (follows.at (follows.seq operand_reads operand_signed links_read)))
 
   -- ---- with fewer terminals that go on, where the expression doesn't end in a multi-way `if`
 
-  lambda_ends : Ends (g.lambda depth W I) (m.lambda depth w i) Closed closed_goes_on
-  unfolding m.lambda m.some_parameters same_terminal
+  lambda_ends : Ends (g.lambda G) (m.lambda M) Closed closed_goes_on
+  unfolding m.lambda same_terminal
   lambda_ends =
       ends.by {C = Closed} _ (ends.when {B = λ x. Closed x.1.1} (λ x h. lambda_closed x.0 x.1.0 x.1.1 h)
-      (ends.at {B = λ x. Closed x.1} (ends.after {C = λ x. Closed x.1} k.Backslash (seq (by _ (seq parameter_reads parameters_read refl)) (behind k.Arrow r) refl)
-      (ends.seq {C = Closed} (by _ (seq parameter_reads parameters_read refl)) (behind k.Arrow r) (ends.after k.Arrow r closed) refl))))
+      (ends.at {B = λ x. Closed x.1} (ends.after {C = λ x. Closed x.1} k.Backslash (seq some_parameters_read (behind k.Arrow r) refl)
+      (ends.seq {C = Closed} some_parameters_read (behind k.Arrow r) (ends.after k.Arrow r closed) refl))))
 
   -- what stands for a tree at some place
   abbrev ClosedSomewhere : (At → Expr) → Type 0
   ClosedSomewhere x = (at : At) × Closed (x at)
 
-  two_way_ends : Ends (g.two_way depth W I) (m.two_way depth w i) ClosedSomewhere closed_goes_on
+  two_way_ends : Ends (g.two_way G) (m.two_way M) ClosedSomewhere closed_goes_on
   unfolding m.two_way same_terminal
   two_way_ends =
       ends.by {C = ClosedSomewhere} _ (ends.when {B = λ x. Closed x.1.1} (λ x h. if_closed h.0 x.0 x.1.0 x.1.1 h.1)
       (ends.seq {C = λ x. Closed x.1} r (seq (behind k.Then r) (behind k.Else r) refl)
       (ends.seq {C = Closed} (behind k.Then r) (behind k.Else r) (ends.after k.Else r closed) refl) refl))
 
-  multi_way_ends : Ends (g.multi_way depth W I) (m.multi_way depth w i) ClosedSomewhere closed_goes_on
+  multi_way_ends : Ends (g.multi_way G) (m.multi_way M) ClosedSomewhere closed_goes_on
   unfolding m.multi_way
   multi_way_ends = ends.by {C = ClosedSomewhere} _ (ends.never (λ x h. guards_closed h.0 x h.1))
 
-  conditional_ends : Ends (g.conditional depth W I) (m.conditional depth w i) Closed closed_goes_on
+  conditional_ends : Ends (g.conditional G) (m.conditional M) Closed closed_goes_on
   unfolding m.conditional same_terminal
   conditional_ends =
       ends.within (ends.by {C = Closed} _ (ends.when {B = λ x. ClosedSomewhere x.1} (λ x h. (x.0, h))
       (ends.at {B = ClosedSomewhere} (ends.after {C = ClosedSomewhere} k.If (either two_way_reads multi_way_reads refl)
       (ends.either two_way_reads two_way_ends multi_way_reads multi_way_ends refl))))) refl
 
-  let_in_ends : Ends (g.let_in depth W I) (m.let_in depth w i) Closed closed_goes_on
+  let_in_ends : Ends (g.let_in G) (m.let_in M) Closed closed_goes_on
   unfolding m.let_in same_terminal
   let_in_ends =
       ends.by {C = Closed} _ (ends.when {B = λ x. Closed x.1.1} (λ x h. let_closed x.0 x.1.0 x.1.1 h)
@@ -425,18 +432,18 @@ module _ (depth : ℕ) {W I : Rule Expr} {w i : Parser Expr} (r : Reading W w fa
   abbrev LastClosed : List (Pattern × Expr) → Type 0
   LastClosed = Last (λ branch. Closed branch.1)
 
-  branch_ends : Ends (g.branch depth W I) (m.branch depth w i) (λ branch. Closed branch.1) closed_goes_on
+  branch_ends : Ends (g.branch G) (m.branch M) (λ branch. Closed branch.1) closed_goes_on
   unfolding m.branch same_terminal
   branch_ends = ends.seq {C = Closed} pattern_reads (behind k.Arrow r) (ends.after k.Arrow r closed) refl
 
-  case_of_ends : Ends (g.case_of depth W I) (m.case_of depth w i) Closed closed_goes_on
+  case_of_ends : Ends (g.case_of G) (m.case_of M) Closed closed_goes_on
   unfolding m.case_of same_terminal
   case_of_ends =
       ends.within (ends.by {C = Closed} _ (ends.when {B = λ x. LastClosed x.1.1} (λ x h. case_closed x.0 x.1.0 x.1.1 h)
       (ends.at {B = λ x. LastClosed x.1} (ends.after {C = λ x. LastClosed x.1} k.Case (seq r (behind k.Of (block branch_reads)) refl)
       (ends.seq {C = LastClosed} r (behind k.Of (block branch_reads)) (ends.after k.Of (block branch_reads) (block_ends branch_reads branch_ends)) refl))))) refl
 
-  last_form_ends : Ends (g.last_form depth W I) (m.last_form depth w i) Closed closed_goes_on
+  last_form_ends : Ends (g.last_form G) (m.last_form M) Closed closed_goes_on
   unfolding m.last_form same_terminal
   last_form_ends =
       ends.within (ends.either lambda_reads lambda_ends (either conditional_reads (either let_in_reads case_of_reads refl) refl)
@@ -445,17 +452,17 @@ module _ (depth : ℕ) {W I : Rule Expr} {w i : Parser Expr} (r : Reading W w fa
   abbrev LinkClosed : List (Operator × Expr) → Type 0
   LinkClosed = Last (λ link. Closed link.1)
 
-  links_end : Ends (rule.linked g.operator (g.operand depth W I) (g.last_form depth W I)) (m.links depth w i) LinkClosed closed_goes_on
+  links_end : Ends (rule.linked g.operator (g.operand G) (g.last_form G)) (m.links M) LinkClosed closed_goes_on
   unfolding m.links same_terminal
   links_end = ends.within (linked_ends operator_reads operand_reads last_form_reads refl refl refl refl last_form_ends) refl
 
-  chain_ends : Ends (g.chain depth W I) (m.chain depth w i) Closed closed_goes_on
+  chain_ends : Ends (g.chain G) (m.chain M) Closed closed_goes_on
   unfolding m.chain same_terminal
   chain_ends =
       ends.within (ends.by {C = Closed} _ (ends.when {B = λ x. LinkClosed x.1.1} (λ x h. chain_closed x.0 x.1.0 x.1.1 h)
       (ends.at {B = λ x. LinkClosed x.1} (ends.seq_any {C = LinkClosed} operand_reads links_read links_end refl)))) refl
 
-  pub level_ends : Ends (g.level depth W I) (m.level depth w i) Closed closed_goes_on
+  pub level_ends : Ends (g.level G) (m.level M) Closed closed_goes_on
   unfolding m.level same_terminal
   level_ends = ends.within (ends.either last_form_reads last_form_ends chain_reads chain_ends refl) refl
 

@@ -7,8 +7,9 @@ use Rattle.elm_base.specs.declared.tree.Set.{Set}
 use Rattle.elm_base.specs.declared.tree.Expr.{Expr}
 use Rattle.elm_base.specs.declared.tree.Expr.TheVariants as e
 use Rattle.elm_base.specs.declared.tree.Declaration.{Declaration}
-use Rattle.elm_base.specs.Lexemes.{Lexeme}
+use Rattle.grammar.specs.declared.terminal.Terminal.{Terminal}
 use Rattle.grammar.specs.declared.terminal.Terminal.TheVariants as k
+use Rattle.elm_base.specs.Lexemes.{Lexeme}
 use Rattle.grammar.specs.Rules as rule
 use Rattle.grammar.specs.Rules.{Rule, at_most_nine}
 use Rattle.tree_nesting.specs.Nesting.{most, type_nesting, pattern_nesting}
@@ -16,12 +17,12 @@ use Rattle.tree_nesting.specs.ExpressionNesting.{expr_nesting, declaration_nesti
 use Rattle.pattern_parser.specs.Types.{type_at}
 use Rattle.pattern_parser.specs.Patterns as patterns
 use Rattle.pattern_parser.specs.Patterns.{cons_at}
-use Rattle.expr_parser.specs.Expressions as g
-use Rattle.expr_parser.specs.Expressions.{DerivesExpr}
-use Rattle.expr_parser.specs.ExprReader as m
+use Rattle.expr_grammar.specs.Expressions as g
+use Rattle.expr_grammar.specs.Expressions.{DerivesExpr}
+use Rattle.expr_grammar.specs.ExprReader as m
 use Rattle.grammar.specs.Reader as reader
 use Rattle.grammar.proofs.Laws.{ok_same}
-use Rattle.expr_parser.proofs.ExprReadings.{tree_reads}
+use Rattle.expr_grammar.proofs.ExprReadings.{tree_reads}
 use Rattle.elm_base.specs.declared.memory.Halt.{Halt}
 use Rattle.elm_base.specs.declared.memory.Halt.TheVariants as halt
 use Rattle.grammar.specs.declared.cursor.NoTree.{NoTree}
@@ -82,6 +83,12 @@ abbrev Around : (At → Expr → Expr) → Type 0
 Around f = (at : At) (x : Expr) → expr_nesting x < expr_nesting (f at x)
 
 module _ (depth limit : ℕ) (W W' I I' : Rule Expr) (s : Shallow W W' (λ x. expr_nesting x < limit)) (inner : Shallow I I' (λ x. expr_nesting x < limit)) where
+  abbrev pub G : g.Below
+  G = record { depth = depth; whole = W; atom = I }
+
+  abbrev pub L : g.Below
+  L = record { depth = limit; whole = W'; atom = I' }
+
   abbrev Within : Expr → Type 0
   Within x = expr_nesting x ≤ limit
 
@@ -103,96 +110,91 @@ module _ (depth limit : ℕ) (W W' I I' : Rule Expr) (s : Shallow W W' (λ x. ex
   inside at (x ∷ []) h = let e = of_brackets at x in (omega arith, tt)
   inside at (x ∷ y ∷ ys) h = around_each expr_nesting (x ∷ y ∷ ys) limit (let e = of_tuple at (x ∷ y ∷ ys) in omega arith)
 
-  parts : Shallow (g.parts depth W I) (g.parts limit W' I') Somewhere
+  parts : Shallow (g.parts G) (g.parts L) Somewhere
   parts =
       by {C = Somewhere} _ (when {B = Each Below} (λ xs h. inside h.0 xs h.1)
       (before (rule.mark k.RightParen) (only at_most_nine (either (separated s) (same (rule.nothing []))))))
 
-  brackets : Shallow (g.brackets depth W I) (g.brackets limit W' I') Within
+  brackets : Shallow (g.brackets G) (g.brackets L) Within
   brackets =
       by _ (when {B = λ x. Somewhere x.1} (λ x h. (x.0, h))
       (at (after (rule.mark k.LeftParen) (either (same g.operator_name) (either (same g.tuple_maker) parts)))))
 
-  behind_low : Shallow (g.behind_low depth W I) (g.behind_low limit W' I') RoundSome
+  behind_low : Shallow (g.behind_low G) (g.behind_low L) RoundSome
   behind_low = by {C = RoundSome} _ (when {B = Below} (λ high h. let e = of_range h.0 h.1 high in let b = h.2 in omega (arith, e, b)) (after (rule.mark k.DotDot) s))
 
-  behind_part : Shallow (g.behind_part depth W I) (g.behind_part limit W' I') RoundSome
+  behind_part : Shallow (g.behind_part G) (g.behind_part L) RoundSome
   behind_part =
       by {C = RoundSome} _ (when {B = Each Below} (λ xs h. most_each expr_nesting xs limit (let e = of_list h.0 (h.1 ∷ xs) in let b = h.2 in omega (arith, e, b)))
       (many (after (rule.mark k.Comma) s)))
 
-  low_around : Values (g.behind_low depth W I) Around
+  low_around : Values (g.behind_low G) Around
   low_around = values_by Around _ (λ high at x. let e = of_range at x high in omega (arith, e))
 
-  part_around : Values (g.behind_part depth W I) Around
+  part_around : Values (g.behind_part G) Around
   part_around = values_by Around _ (λ xs at x. let e = of_list at (x ∷ xs) in omega (arith, e))
 
-  inside_list : Shallow (g.inside_list depth W I) (g.inside_list limit W' I') Somewhere
+  inside_list : Shallow (g.inside_list G) (g.inside_list L) Somewhere
   inside_list =
       either (by {C = Somewhere} _ (knowing {B = λ x. Below x.0 × RoundSome x.1} {V = λ x. Around x.1} (values_second _ (values_either low_around part_around))
       (λ x v h. let a = v h.0 x.0 in let b = h.1 in (omega (arith, a, b), (h.0, x.0, h.1))) (seq s (either behind_low behind_part)))) (same (rule.nothing _))
 
-  list : Shallow (g.list depth W I) (g.list limit W' I') Within
+  list : Shallow (g.list G) (g.list L) Within
   list =
       by _ (when {B = λ x. Somewhere x.1} (λ x h. (x.0, h))
       (at (after (rule.mark k.LeftBracket) (before (rule.mark k.RightBracket) inside_list))))
 
   -- ---- records
 
-  set : Shallow (g.set depth W I) (g.set limit W' I') SetBelow
-  set =
-      by {C = SetBelow} _ (when {B = λ x. Unit {0} × Below x.1.1} (λ x h. (tt, let e = of_set x.0 x.1.0 x.1.1 in omega (arith, e, h)))
-      (at (seq (same (rule.name k.Lower)) (after (rule.mark k.Equals) s))))
+  set : (symbol : Terminal) → Shallow (g.set G symbol) (g.set L symbol) SetBelow
+  set symbol =
+      by {C = SetBelow} g.set_of (when {B = λ x. Unit {0} × Below x.1.1} (λ x h. (tt, let e = of_set x.0 x.1.0 x.1.1 in omega (arith, e, h)))
+      (at (seq (same (rule.name k.Lower)) (after (rule.mark symbol) s))))
 
-  put : Shallow (g.put depth W I) (g.put limit W' I') SetBelow
-  put =
-      by {C = SetBelow} _ (when {B = λ x. Unit {0} × Below x.1.1} (λ x h. (tt, let e = of_set x.0 x.1.0 x.1.1 in omega (arith, e, h)))
-      (at (seq (same (rule.name k.Lower)) (after (rule.mark k.LeftArrow) s))))
-
-  fields : Shallow (g.fields depth W I) (g.fields limit W' I') Somewhere
+  fields : Shallow (g.fields G) (g.fields L) Somewhere
   fields =
       by {C = Somewhere} _ (when {B = Each SetBelow} (λ sets h. around_each set_nesting sets limit (let e = of_fields h.0 sets in let b = h.1 in omega (arith, e, b)))
-      (separated set))
+      (separated (set k.Equals)))
 
-  extended : Shallow (g.extended depth W I) (g.extended limit W' I') RoundSome
+  extended : Shallow (g.extended G) (g.extended L) RoundSome
   extended =
       by {C = RoundSome} _ (when {B = Each SetBelow} (λ sets h. most_each set_nesting sets limit (let e = of_extend h.0 h.1 sets in let b = h.2 in omega (arith, e, b)))
-      (separated set))
+      (separated (set k.Equals)))
 
-  updated : Shallow (g.updated depth W I) (g.updated limit W' I') RoundSome
+  updated : Shallow (g.updated G) (g.updated L) RoundSome
   updated =
       by {C = RoundSome} _ (when {B = Each SetBelow} (λ sets h. most_each set_nesting sets limit (let e = of_update h.0 h.1 sets in let b = h.2 in omega (arith, e, b)))
-      (separated put))
+      (separated (set k.LeftArrow)))
 
-  new_fields : Shallow (g.new_fields depth W I) (g.new_fields limit W' I') (Each SetBelow)
-  new_fields = either (after (rule.mark k.Bar) (separated set)) (same (rule.nothing []))
+  new_fields : Shallow (g.new_fields G) (g.new_fields L) (Each SetBelow)
+  new_fields = either (after (rule.mark k.Bar) (separated (set k.Equals))) (same (rule.nothing []))
 
-  removed : Shallow (g.removed depth W I) (g.removed limit W' I') RoundSome
+  removed : Shallow (g.removed G) (g.removed L) RoundSome
   removed =
       by {C = RoundSome} _ (when {B = λ x. Unit {0} × Each SetBelow x.1}
       (λ x h. (tt, most_each set_nesting x.1 limit (let e = of_remove h.0 h.1 x.0 x.1 in let b = h.2 in omega (arith, e, b))))
       (after (rule.mark k.Minus) (seq (same (rule.name k.Lower)) new_fields)))
 
-  bar_around : Values (rule.◌▷◌ (rule.mark k.Bar) (rule.◌∣◌ (g.extended depth W I) (g.updated depth W I))) Around
+  bar_around : Values (rule.◌▷◌ (rule.mark k.Bar) (rule.◌∣◌ (g.extended G) (g.updated G))) Around
   bar_around =
       values_after _ Around (values_either (values_by Around _ (λ sets at x. let e = of_extend at x sets in omega (arith, e)))
       (values_by Around _ (λ sets at x. let e = of_update at x sets in omega (arith, e))))
 
-  removed_around : Values (g.removed depth W I) Around
+  removed_around : Values (g.removed G) Around
   removed_around = values_by Around _ (λ y at x. let e = of_remove at x y.0 y.1 in omega (arith, e))
 
-  over_record : Shallow (g.over_record depth W I) (g.over_record limit W' I') Somewhere
+  over_record : Shallow (g.over_record G) (g.over_record L) Somewhere
   over_record =
       by {C = Somewhere} _ (knowing {B = λ x. Below x.0 × RoundSome x.1} {V = λ x. Around x.1} (values_second _ (values_either bar_around removed_around))
       (λ x v h. let a = v h.0 x.0 in let b = h.1 in (omega (arith, a, b), (h.0, x.0, h.1)))
       (seq inner (either (after (rule.mark k.Bar) (either extended updated)) removed)))
 
-  braces : Shallow (g.braces depth W I) (g.braces limit W' I') Within
+  braces : Shallow (g.braces G) (g.braces L) Within
   braces =
       by _ (when {B = λ x. Somewhere x.1} (λ x h. (x.0, h))
       (at (after (rule.mark k.LeftBrace) (before (rule.mark k.RightBrace) (either (either fields over_record) (same (rule.nothing _)))))))
 
-  primary : Shallow (g.primary depth W I) (g.primary limit W' I') Within
+  primary : Shallow (g.primary G) (g.primary L) Within
   primary =
       either (same g.int) (either (same g.char_) (either (same g.text) (either (same g.variable) (either (same g.constructor) (either (same g.field_function)
       (either brackets (either list braces)))))))
@@ -200,10 +202,10 @@ module _ (depth limit : ℕ) (W W' I I' : Rule Expr) (s : Shallow W W' (λ x. ex
   abbrev FewLabels : List (List ℕ) → Type 0
   FewLabels labels = length labels ≤ limit
 
-  accesses : Shallow (rule.only (λ labels. nat_le (length labels) depth) (rule.many (g.access depth W I))) (rule.only (λ labels. nat_le (length labels) limit) (rule.many (g.access limit W' I'))) FewLabels
+  accesses : Shallow (rule.only (λ labels. nat_le (length labels) depth) (rule.many (g.access G))) (rule.only (λ labels. nat_le (length labels) limit) (rule.many (g.access L))) FewLabels
   accesses = record { takes = λ ts xs w b. (w.0, le_true (length xs) limit b) }
 
-  atom : Shallow (g.atom depth W I) (g.atom limit W' I') Within
+  atom : Shallow (g.atom G) (g.atom L) Within
   atom =
       by g.accessed (when {B = λ x. Within x.1.0 × FewLabels x.1.1} (λ x h. let e = nests_accessed x.0 x.1.0 x.1.1 in (omega (arith, e, h), omega (arith, e, h)))
       (at (seq primary accesses)))
@@ -212,13 +214,13 @@ module _ (depth limit : ℕ) (W W' I I' : Rule Expr) (s : Shallow W W' (λ x. ex
   of_application at f [] h = (h, tt)
   of_application at f (x ∷ xs) h = let e = of_call at f (x ∷ xs) in (omega (arith, e), most_within expr_nesting (x ∷ xs) limit (omega (arith, e)))
 
-  application : Shallow (g.application depth W I) (g.application limit W' I') Within
+  application : Shallow (g.application G) (g.application L) Within
   application = by g.applied (when {B = λ x. Within x.1.0 × Each Within x.1.1} (λ x h. of_application x.0 x.1.0 x.1.1 h) (at (seq atom (many atom))))
 
-  negation : Shallow (g.negation depth W I) (g.negation limit W' I') Within
+  negation : Shallow (g.negation G) (g.negation L) Within
   negation = by {C = Within} _ (when {B = λ x. Within x.1} (λ x h. let e = of_negate x.0 x.1 in omega (arith, e, h)) (at (after (rule.mark k.Minus) application)))
 
-  operand : Shallow (g.operand depth W I) (g.operand limit W' I') Within
+  operand : Shallow (g.operand G) (g.operand L) Within
   operand = either negation application
 
   -- ---- the forms that take all behind them
@@ -226,22 +228,22 @@ module _ (depth limit : ℕ) (W W' I I' : Rule Expr) (s : Shallow W W' (λ x. ex
   abbrev PatternBelow : Pattern → Type 0
   PatternBelow x = pattern_nesting x < limit
 
-  parameter : Shallow (g.parameter depth W I) (g.parameter limit W' I') PatternBelow
+  parameter : Shallow (g.parameter G) (g.parameter L) PatternBelow
   parameter =
       when {B = λ x. pattern_nesting x ≤ limit} (λ x h. omega arith)
       (pattern_laws.part (cons_at depth) (cons_at limit) limit (deeper_cons depth limit) (deeper_pattern depth limit))
 
-  some_parameter : Values (rule.some (g.parameter depth W I)) (λ xs. 1 ≤ length xs)
+  some_parameter : Values (rule.some (g.parameter G)) (λ xs. 1 ≤ length xs)
   some_parameter = values_by (λ xs. 1 ≤ length xs) _ (λ x. omega arith)
 
-  lambda : Shallow (g.lambda depth W I) (g.lambda limit W' I') Within
+  lambda : Shallow (g.lambda G) (g.lambda L) Within
   lambda =
       by {C = Within} _ (when {B = λ x. Each PatternBelow x.1.0 × (1 ≤ length x.1.0 → Below x.1.1)}
       (λ x h. let e = of_lambda x.0 x.1.0 x.1.1 in (around_each pattern_nesting x.1.0 limit (omega (arith, e, h)), λ n. omega (arith, e, h, n)))
       (at {B = λ x. Each PatternBelow x.0 × (1 ≤ length x.0 → Below x.1)} (after (rule.mark k.Backslash) (knowing {B = λ x. Each PatternBelow x.0 × Below x.1} (values_first _ some_parameter) (λ x v h. (h.0, h.1 v))
       (seq (some parameter) (after (rule.mark k.Arrow) s))))))
 
-  two_way : Shallow (g.two_way depth W I) (g.two_way limit W' I') Somewhere
+  two_way : Shallow (g.two_way G) (g.two_way L) Somewhere
   two_way =
       by {C = Somewhere} _ (when {B = λ x. Below x.0 × (Below x.1.0 × Below x.1.1)}
       (λ x h. let e = of_if h.0 x.0 x.1.0 x.1.1 in let b = h.1 in (omega (arith, e, b), (omega (arith, e, b), omega (arith, e, b))))
@@ -250,18 +252,18 @@ module _ (depth limit : ℕ) (W W' I I' : Rule Expr) (s : Shallow W W' (λ x. ex
   abbrev GuardBelow : Expr × Expr → Type 0
   GuardBelow x = max (expr_nesting x.0) (expr_nesting x.1) < limit
 
-  guard : Shallow (g.guard depth W I) (g.guard limit W' I') GuardBelow
+  guard : Shallow (g.guard G) (g.guard L) GuardBelow
   guard =
       when {B = λ x. Below x.0 × Below x.1} (λ x h. (omega arith, omega arith))
       (seq (after (rule.mark k.Bar) s) (after (rule.mark k.Arrow) (only (λ x. not (g.ends_in_guards x)) s)))
 
-  multi_way : Shallow (g.multi_way depth W I) (g.multi_way limit W' I') Somewhere
+  multi_way : Shallow (g.multi_way G) (g.multi_way L) Somewhere
   multi_way =
       by {C = Somewhere} _ (when {B = Each GuardBelow}
       (λ xs h. around_each (λ (x : Expr × Expr). max (expr_nesting x.0) (expr_nesting x.1)) xs limit (let e = of_guards h.0 xs in let b = h.1 in omega (arith, e, b)))
       (some guard))
 
-  conditional : Shallow (g.conditional depth W I) (g.conditional limit W' I') Within
+  conditional : Shallow (g.conditional G) (g.conditional L) Within
   conditional = by {C = Within} _ (when {B = λ x. Somewhere x.1} (λ x h. (x.0, h)) (at (after (rule.mark k.If) (either two_way multi_way))))
 
   -- ---- definitions
@@ -272,38 +274,38 @@ module _ (depth limit : ℕ) (W W' I I' : Rule Expr) (s : Shallow W W' (λ x. ex
   abbrev OfSomeName : (At → List ℕ → Declaration) → Type 0
   OfSomeName f = (at : At) × (name : List ℕ) × DeclarationBelow (f at name)
 
-  annotated : Shallow (g.annotated depth W I) (g.annotated limit W' I') OfSomeName
+  annotated : Shallow (g.annotated G) (g.annotated L) OfSomeName
   annotated =
       by {C = OfSomeName} _ (when {B = λ x. type_nesting x < limit} (λ x h. let e = of_annotation h.0 h.1 x in let b = h.2 in omega (arith, e, b))
       (after (rule.mark k.Colon) (deeper_type depth limit)))
 
-  defined : Shallow (g.defined depth W I) (g.defined limit W' I') OfSomeName
+  defined : Shallow (g.defined G) (g.defined L) OfSomeName
   defined =
       by {C = OfSomeName} _ (when {B = λ x. Each PatternBelow x.0 × Below x.1}
       (λ x h. let e = of_definition h.0 h.1 x.0 x.1 in let b = h.2 in (most_each pattern_nesting x.0 limit (omega (arith, e, b)), omega (arith, e, b)))
       (seq (many parameter) (after (rule.mark k.Equals) s)))
 
-  named_definition : Shallow (g.named_definition depth W I) (g.named_definition limit W' I') DeclarationBelow
+  named_definition : Shallow (g.named_definition G) (g.named_definition L) DeclarationBelow
   named_definition =
       by {C = DeclarationBelow} _ (when {B = λ x. Unit {0} × OfSomeName x.1.1} (λ x h. (tt, (x.0, x.1.0, h)))
       (at (seq (same (rule.name k.Lower)) (either annotated defined))))
 
-  compound : Shallow (g.compound depth W I) (g.compound limit W' I') PatternBelow
+  compound : Shallow (g.compound G) (g.compound L) PatternBelow
   compound =
       when {B = λ x. pattern_nesting x ≤ limit} (λ x h. omega arith)
       (either (only (λ x. not (g.is_brackets x)) (pattern_laws.brackets (cons_at depth) (cons_at limit) limit (deeper_cons depth limit) (deeper_pattern depth limit)))
       (same patterns.labels))
 
-  pattern_definition : Shallow (g.pattern_definition depth W I) (g.pattern_definition limit W' I') DeclarationBelow
+  pattern_definition : Shallow (g.pattern_definition G) (g.pattern_definition L) DeclarationBelow
   pattern_definition =
       by {C = DeclarationBelow} _ (when {B = λ x. PatternBelow x.1.0 × Below x.1.1}
       (λ x h. let e = of_pattern_definition x.0 x.1.0 x.1.1 in (omega (arith, e, h), omega (arith, e, h)))
       (at (seq compound (after (rule.mark k.Equals) s))))
 
-  definition : Shallow (g.definition depth W I) (g.definition limit W' I') DeclarationBelow
+  definition : Shallow (g.definition G) (g.definition L) DeclarationBelow
   definition = either named_definition pattern_definition
 
-  let_in : Shallow (g.let_in depth W I) (g.let_in limit W' I') Within
+  let_in : Shallow (g.let_in G) (g.let_in L) Within
   let_in =
       by {C = Within} _ (when {B = λ x. Each DeclarationBelow x.1.0 × Below x.1.1}
       (λ x h. let e = of_let x.0 x.1.0 x.1.1 in (most_each declaration_nesting x.1.0 limit (omega (arith, e, h)), omega (arith, e, h)))
@@ -312,11 +314,11 @@ module _ (depth limit : ℕ) (W W' I I' : Rule Expr) (s : Shallow W W' (λ x. ex
   abbrev BranchBelow : Pattern × Expr → Type 0
   BranchBelow x = max (pattern_nesting x.0) (expr_nesting x.1) < limit
 
-  branch : Shallow (g.branch depth W I) (g.branch limit W' I') BranchBelow
+  branch : Shallow (g.branch G) (g.branch L) BranchBelow
   branch =
       when {B = λ x. PatternBelow x.0 × Below x.1} (λ x h. (omega arith, omega arith)) (seq (deeper_pattern depth limit) (after (rule.mark k.Arrow) s))
 
-  case_of : Shallow (g.case_of depth W I) (g.case_of limit W' I') Within
+  case_of : Shallow (g.case_of G) (g.case_of L) Within
   case_of =
       by {C = Within} _ (when {B = λ x. Below x.1.0 × Each BranchBelow x.1.1}
       (λ x h. let e = of_case x.0 x.1.0 x.1.1 in (
@@ -325,7 +327,7 @@ module _ (depth limit : ℕ) (W W' I I' : Rule Expr) (s : Shallow W W' (λ x. ex
       ))
       (at (after (rule.mark k.Case) (seq s (after (rule.mark k.Of) (block branch))))))
 
-  last_form : Shallow (g.last_form depth W I) (g.last_form limit W' I') Within
+  last_form : Shallow (g.last_form G) (g.last_form L) Within
   last_form = either lambda (either conditional (either let_in case_of))
 
   -- ---- the whole
@@ -341,11 +343,11 @@ module _ (depth limit : ℕ) (W W' I I' : Rule Expr) (s : Shallow W W' (λ x. ex
       let less : most (map expr_nesting (map (λ (link : Operator × Expr). link.1) (x ∷ xs))) ≤ limit = omega (arith, e) in
       (omega (arith, e), most_within (λ link. expr_nesting link.1) (x ∷ xs) limit (subst (λ (z : List ℕ). most z ≤ limit) twice less))
 
-  chain : Shallow (g.chain depth W I) (g.chain limit W' I') Within
+  chain : Shallow (g.chain G) (g.chain L) Within
   chain =
       by g.chained (when {B = λ x. Within x.1.0 × Each LinkWithin x.1.1} (λ x h. of_links x.0 x.1.0 x.1.1 h) (at (seq operand (linked g.operator operand last_form))))
 
-  level : Shallow (g.level depth W I) (g.level limit W' I') Within
+  level : Shallow (g.level G) (g.level L) Within
   level = either last_form chain
 
 -- An expression and an atom alone derive at a depth above their nesting.

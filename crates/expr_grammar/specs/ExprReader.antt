@@ -3,7 +3,7 @@ use Rattle.std.specs.Prelude.{ℕ, zero, suc, nat_le, Bool, true, false, not, Li
 use Rattle.elm_base.specs.declared.token.At.{At}
 use Rattle.elm_base.specs.declared.tree.Operator.{Operator}
 use Rattle.elm_base.specs.declared.tree.Pattern.{Pattern}
-use Rattle.elm_base.specs.declared.tree.Set.{Set, roll-Set}
+use Rattle.elm_base.specs.declared.tree.Set.{Set}
 use Rattle.elm_base.specs.declared.tree.Expr.{Expr}
 use Rattle.elm_base.specs.declared.tree.Expr.TheVariants as e
 use Rattle.elm_base.specs.declared.tree.Declaration.{Declaration}
@@ -12,8 +12,9 @@ use Rattle.grammar.specs.declared.terminal.Terminal.{Terminal}
 use Rattle.grammar.specs.declared.terminal.Terminal.TheVariants as k
 use Rattle.grammar.specs.Rules.{at_most_nine}
 use Rattle.grammar.specs.Spelling.{int_value, char_value, text_value, label_of}
-use Rattle.expr_parser.specs.Expressions.{applied, chained, accessed, enclosed, is_brackets, ends_in_guards, annotations_stand}
+use Rattle.expr_grammar.specs.Expressions.{applied, chained, accessed, enclosed, set_of, is_brackets, ends_in_guards, annotations_stand}
 use Rattle.grammar.specs.Reader.{Parser, spelled, name, mark, nothing, ◌⊗◌, ◌▷◌, ◌◁◌, ◌<$>◌, choose, choose_if, starts_two, many, only, at, linked, block}
+use Rattle.grammar.specs.Lists.{some, separated}
 use Rattle.pattern_parser.specs.TypeReader.{type_at}
 use Rattle.pattern_parser.specs.PatternReader as patterns
 use Rattle.pattern_parser.specs.PatternReader.{cons_at, patterns_begin}
@@ -79,34 +80,38 @@ unfoldable pub operator_name : Parser (At → Expr)
 operator_name = (λ name at. e.OperatorName at name) <$> sign ◁ mark k.RightParen
 
 unfoldable pub commas : Parser (List (Unit {0}))
-commas = only (λ commas. nat_le (length commas) 8) ((λ x. x.0 ∷ x.1) <$> mark k.Comma ⊗ many (k.Comma ∷ []) (mark k.Comma))
+commas = only (λ commas. nat_le (length commas) 8) (some (k.Comma ∷ []) (mark k.Comma))
 
 unfoldable pub tuple_maker : Parser (At → Expr)
 tuple_maker = (λ commas at. e.TupleMaker at (suc (length commas))) <$> commas ◁ mark k.RightParen
 
--- ---- over the parser of a whole expression and the depth that is left for types and patterns
+-- ---- over the parsers of the level below
 
-module _ (depth : ℕ) (whole inner_atom : Parser Expr) where
-  unfoldable pub pattern_ : Parser Pattern
-  pattern_ = patterns.whole (cons_at depth)
+-- How deep types and patterns may nest, and the parsers of a whole expression and of an atom that may stand inside.
+pub record Below : Type 0 where
+  pub depth : ℕ
+  pub whole : Parser Expr
+  pub atom : Parser Expr
 
-  unfoldable pub parameter : Parser Pattern
-  parameter = patterns.part (cons_at depth)
+module _ (inner : Below) where
+  abbrev pub pattern_ : Parser Pattern
+  pattern_ = patterns.whole (cons_at inner.depth)
 
-  unfoldable pub parameters : Parser (List Pattern)
-  parameters = many patterns_begin parameter
+  abbrev pub parameter : Parser Pattern
+  parameter = patterns.part (cons_at inner.depth)
 
   unfoldable pub compound : Parser Pattern
-  compound = choose (k.LeftParen ∷ []) (only (λ x. not (is_brackets x)) (patterns.brackets (cons_at depth))) patterns.labels
+  compound = choose (k.LeftParen ∷ []) (only (λ x. not (is_brackets x)) (patterns.brackets (cons_at inner.depth))) patterns.labels
 
-  unfoldable pub next : Parser Expr
-  next = mark k.Comma ▷ whole
+  -- an expression behind this token
+  abbrev pub behind : Terminal → Parser Expr
+  behind symbol = mark symbol ▷ inner.whole
 
-  unfoldable pub more : Parser (List Expr)
-  more = many (k.Comma ∷ []) next
+  abbrev pub more : Parser (List Expr)
+  more = many (k.Comma ∷ []) (behind k.Comma)
 
   unfoldable pub any_parts : Parser (List Expr)
-  any_parts = only at_most_nine (choose expressions_begin ((λ x. x.0 ∷ x.1) <$> whole ⊗ more) (nothing []))
+  any_parts = only at_most_nine (choose expressions_begin (separated inner.whole) (nothing []))
 
   unfoldable pub parts : Parser (At → Expr)
   parts = (λ xs at. enclosed (at, xs)) <$> any_parts ◁ mark k.RightParen
@@ -118,55 +123,43 @@ module _ (depth : ℕ) (whole inner_atom : Parser Expr) where
   brackets = (λ x. x.1 x.0) <$> at (mark k.LeftParen ▷ inside_brackets)
 
   unfoldable pub behind_low : Parser (At → Expr → Expr)
-  behind_low = (λ high at low. e.Range at low high) <$> mark k.DotDot ▷ whole
+  behind_low = (λ high at low. e.Range at low high) <$> mark k.DotDot ▷ inner.whole
 
   unfoldable pub behind_part : Parser (At → Expr → Expr)
   behind_part = (λ parts at first. e.List at (first ∷ parts)) <$> more
 
   unfoldable pub inside_list : Parser (At → Expr)
-  inside_list = choose expressions_begin ((λ x at. x.1 at x.0) <$> whole ⊗ choose (k.DotDot ∷ []) behind_low behind_part) (nothing (λ at. e.List at []))
+  inside_list = choose expressions_begin ((λ x at. x.1 at x.0) <$> inner.whole ⊗ choose (k.DotDot ∷ []) behind_low behind_part) (nothing (λ at. e.List at []))
 
   unfoldable pub list : Parser Expr
   list = (λ x. x.1 x.0) <$> at (mark k.LeftBracket ▷ inside_list ◁ mark k.RightBracket)
 
-  unfoldable pub set : Parser Set
-  set = (λ x. roll-Set (record { at = x.0; label = x.1.0; value = x.1.1 })) <$> at (name k.Lower ⊗ mark k.Equals ▷ whole)
+  unfoldable pub set : Terminal → Parser Set
+  set symbol = set_of <$> at (name k.Lower ⊗ mark symbol ▷ inner.whole)
 
-  unfoldable pub next_set : Parser Set
-  next_set = mark k.Comma ▷ set
-
-  unfoldable pub sets : Parser (List Set)
-  sets = (λ x. x.0 ∷ x.1) <$> set ⊗ many (k.Comma ∷ []) next_set
-
-  unfoldable pub put : Parser Set
-  put = (λ x. roll-Set (record { at = x.0; label = x.1.0; value = x.1.1 })) <$> at (name k.Lower ⊗ mark k.LeftArrow ▷ whole)
-
-  unfoldable pub next_put : Parser Set
-  next_put = mark k.Comma ▷ put
-
-  unfoldable pub puts : Parser (List Set)
-  puts = (λ x. x.0 ∷ x.1) <$> put ⊗ many (k.Comma ∷ []) next_put
+  abbrev pub sets : Terminal → Parser (List Set)
+  sets symbol = separated (set symbol)
 
   unfoldable pub fields : Parser (At → Expr)
-  fields = (λ sets at. e.Fields at sets) <$> sets
+  fields = (λ sets at. e.Fields at sets) <$> sets k.Equals
 
   unfoldable pub extended : Parser (At → Expr → Expr)
-  extended = (λ sets at from. e.Extend at from sets) <$> sets
+  extended = (λ sets at from. e.Extend at from sets) <$> sets k.Equals
 
   unfoldable pub updated : Parser (At → Expr → Expr)
-  updated = (λ sets at from. e.Update at from sets) <$> puts
+  updated = (λ sets at from. e.Update at from sets) <$> sets k.LeftArrow
 
   unfoldable pub behind_bar : Parser (At → Expr → Expr)
   behind_bar = mark k.Bar ▷ choose_if (starts_two (k.Lower ∷ []) (k.Equals ∷ [])) extended updated
 
   unfoldable pub new_fields : Parser (List Set)
-  new_fields = choose (k.Bar ∷ []) (mark k.Bar ▷ sets) (nothing [])
+  new_fields = choose (k.Bar ∷ []) (mark k.Bar ▷ sets k.Equals) (nothing [])
 
   unfoldable pub removed : Parser (At → Expr → Expr)
   removed = (λ x at from. e.Remove at from x.0 x.1) <$> mark k.Minus ▷ name k.Lower ⊗ new_fields
 
   unfoldable pub over_record : Parser (At → Expr)
-  over_record = (λ x at. x.1 at x.0) <$> inner_atom ⊗ choose (k.Bar ∷ []) behind_bar removed
+  over_record = (λ x at. x.1 at x.0) <$> inner.atom ⊗ choose (k.Bar ∷ []) behind_bar removed
 
   unfoldable pub filled_braces : Parser (At → Expr)
   filled_braces = choose_if (starts_two (k.Lower ∷ []) (k.Equals ∷ [])) fields over_record
@@ -184,7 +177,7 @@ module _ (depth : ℕ) (whole inner_atom : Parser Expr) where
       (choose (k.LeftParen ∷ []) brackets (choose (k.LeftBracket ∷ []) list braces)))))))
 
   unfoldable pub accesses : Parser (List (List ℕ))
-  accesses = only (λ labels. nat_le (length labels) depth) (many (k.Access ∷ []) (spelled k.Access label_of))
+  accesses = only (λ labels. nat_le (length labels) inner.depth) (many (k.Access ∷ []) (spelled k.Access label_of))
 
   unfoldable pub atom : Parser Expr
   atom = accessed <$> at (primary ⊗ accesses)
@@ -198,38 +191,32 @@ module _ (depth : ℕ) (whole inner_atom : Parser Expr) where
   unfoldable pub operand : Parser Expr
   operand = choose (k.Minus ∷ []) negation application
 
-  unfoldable pub some_parameters : Parser (List Pattern)
-  some_parameters = (λ x. x.0 ∷ x.1) <$> parameter ⊗ parameters
-
   unfoldable pub lambda : Parser Expr
-  lambda = (λ x. e.Lambda x.0 x.1.0 x.1.1) <$> at (mark k.Backslash ▷ some_parameters ⊗ mark k.Arrow ▷ whole)
+  lambda = (λ x. e.Lambda x.0 x.1.0 x.1.1) <$> at (mark k.Backslash ▷ some patterns_begin parameter ⊗ mark k.Arrow ▷ inner.whole)
 
   unfoldable pub two_way : Parser (At → Expr)
-  two_way = (λ x at. e.If at x.0 x.1.0 x.1.1) <$> whole ⊗ (mark k.Then ▷ whole) ⊗ mark k.Else ▷ whole
+  two_way = (λ x at. e.If at x.0 x.1.0 x.1.1) <$> inner.whole ⊗ (mark k.Then ▷ inner.whole) ⊗ mark k.Else ▷ inner.whole
 
   unfoldable pub guard : Parser (Expr × Expr)
-  guard = (mark k.Bar ▷ whole) ⊗ mark k.Arrow ▷ only (λ x. not (ends_in_guards x)) whole
-
-  unfoldable pub guards : Parser (List (Expr × Expr))
-  guards = (λ x. x.0 ∷ x.1) <$> guard ⊗ many (k.Bar ∷ []) guard
+  guard = (mark k.Bar ▷ inner.whole) ⊗ mark k.Arrow ▷ only (λ x. not (ends_in_guards x)) inner.whole
 
   unfoldable pub multi_way : Parser (At → Expr)
-  multi_way = (λ branches at. e.Guards at branches) <$> guards
+  multi_way = (λ branches at. e.Guards at branches) <$> some (k.Bar ∷ []) guard
 
   unfoldable pub conditional : Parser Expr
   conditional = (λ x. x.1 x.0) <$> at (mark k.If ▷ choose expressions_begin two_way multi_way)
 
   unfoldable pub annotated : Parser (At → List ℕ → Declaration)
-  annotated = (λ written at name. d.Annotation at name written) <$> mark k.Colon ▷ type_at depth
+  annotated = (λ written at name. d.Annotation at name written) <$> mark k.Colon ▷ type_at inner.depth
 
   unfoldable pub defined : Parser (At → List ℕ → Declaration)
-  defined = (λ x at name. d.Definition at name x.0 x.1) <$> parameters ⊗ mark k.Equals ▷ whole
+  defined = (λ x at name. d.Definition at name x.0 x.1) <$> many patterns_begin parameter ⊗ mark k.Equals ▷ inner.whole
 
   unfoldable pub named_definition : Parser Declaration
   named_definition = (λ x. x.1.1 x.0 x.1.0) <$> at (name k.Lower ⊗ choose (k.Colon ∷ []) annotated defined)
 
   unfoldable pub pattern_definition : Parser Declaration
-  pattern_definition = (λ x. d.PatternDefinition x.0 x.1.0 x.1.1) <$> at (compound ⊗ mark k.Equals ▷ whole)
+  pattern_definition = (λ x. d.PatternDefinition x.0 x.1.0 x.1.1) <$> at (compound ⊗ mark k.Equals ▷ inner.whole)
 
   unfoldable pub definition : Parser Declaration
   definition = choose (k.Lower ∷ []) named_definition pattern_definition
@@ -238,13 +225,13 @@ module _ (depth : ℕ) (whole inner_atom : Parser Expr) where
   definitions = only annotations_stand (block definitions_begin definition)
 
   unfoldable pub let_in : Parser Expr
-  let_in = (λ x. e.Let x.0 x.1.0 x.1.1) <$> at (mark k.Let ▷ definitions ⊗ mark k.In ▷ whole)
+  let_in = (λ x. e.Let x.0 x.1.0 x.1.1) <$> at (mark k.Let ▷ definitions ⊗ mark k.In ▷ inner.whole)
 
   unfoldable pub branch : Parser (Pattern × Expr)
-  branch = pattern_ ⊗ mark k.Arrow ▷ whole
+  branch = pattern_ ⊗ mark k.Arrow ▷ inner.whole
 
   unfoldable pub case_of : Parser Expr
-  case_of = (λ x. e.Case x.0 x.1.0 x.1.1) <$> at (mark k.Case ▷ whole ⊗ mark k.Of ▷ block patterns_begin branch)
+  case_of = (λ x. e.Case x.0 x.1.0 x.1.1) <$> at (mark k.Case ▷ inner.whole ⊗ mark k.Of ▷ block patterns_begin branch)
 
   unfoldable pub last_form : Parser Expr
   last_form = choose (k.Backslash ∷ []) lambda (choose (k.If ∷ []) conditional (choose (k.Let ∷ []) let_in case_of))
@@ -260,5 +247,9 @@ module _ (depth : ℕ) (whole inner_atom : Parser Expr) where
 
 unfoldable pub tree_at : Bool → ℕ → Parser Expr
 tree_at alone zero ts = None
-tree_at true (suc depth) ts = atom depth (tree_at false depth) (tree_at true depth) ts
-tree_at false (suc depth) ts = level depth (tree_at false depth) (tree_at true depth) ts
+tree_at true (suc depth) ts = atom (record { depth = depth; whole = tree_at false depth; atom = tree_at true depth }) ts
+tree_at false (suc depth) ts = level (record { depth = depth; whole = tree_at false depth; atom = tree_at true depth }) ts
+
+-- what is below the next depth
+abbrev pub below : ℕ → Below
+below depth = record { depth = depth; whole = tree_at false depth; atom = tree_at true depth }

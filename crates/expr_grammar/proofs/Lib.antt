@@ -1,0 +1,3 @@
+pub mod GuardLaws
+pub mod ExprReadings
+pub mod ExprLaws

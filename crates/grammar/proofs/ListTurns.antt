@@ -1,0 +1,49 @@
+-- What a function value reads of a list takes a token at least.
+use Rattle.std.proofs.Common.{◌≡◌, ◌<◌, ◌≤◌, ◌+◌, false, List, [], ◌∷◌, ◌++◌, length, ap, arith, length-append, Some, None}
+use Rattle.elm_base.specs.declared.token.At.{At}
+use Rattle.elm_base.specs.Lexemes.{Lexeme}
+use Rattle.grammar.specs.declared.terminal.Terminal.{Terminal}
+use Rattle.grammar.specs.declared.terminal.Terminal.TheVariants as k
+use Rattle.grammar.specs.Rules.{Rule}
+use Rattle.grammar.specs.Reader.{Parser, and_then, here, mark, item, items, block, with_front, ◌⊗◌, ◌▷◌, ◌<$>◌}
+use Rattle.grammar.specs.Lists.{TakesSome}
+use Rattle.grammar.proofs.Laws as laws
+use Rattle.grammar.proofs.Laws.{Reading, Sound, Begins, then_ok, ok_same}
+use Rattle.grammar.proofs.Turns.{Takes, takes, with_one}
+
+pub shorter : {A : Type 0} {p : Parser A} → TakesSome p → Takes p
+shorter t ts rest x e =
+    let front = t ts rest x e in
+    omega (arith, ap length front.2, length-append front.1 rest)
+
+pub takes_some : {A : Type 0} {P : Rule A} {p : Parser A} {f m : List Terminal} → Reading P p false f m → TakesSome p
+takes_some {f = f} r ts rest x e = let s = r.sound.reads ts rest x e in go s.0 s.1 (r.begins s.0 x s.2)
+  where
+    go : (us : List Lexeme) → ts ≡ us ++ rest → Begins false f us → (t : Lexeme) × (us : List Lexeme) × (ts ≡ t ∷ (us ++ rest))
+    go [] is b = cc
+    go (t ∷ us) is b = (t, us, is)
+
+-- of what stands behind a mark
+pub behind_takes : {A : Type 0} {p : Parser A} (symbol : Terminal) → Takes p → Takes (mark symbol ▷ p)
+behind_takes {p = p} symbol t ts rest x e =
+    let o = then_ok (◌⊗◌ (mark symbol) p ts) (λ y us. Some (y.1, us)) (x, rest) e in
+    let a = then_ok (mark symbol ts) (λ a us. and_then (p us) (λ b vs. Some ((a, b), vs))) o.0 o.1 in
+    let c = then_ok (p a.0.1) (λ b vs. Some ((a.0.0, b), vs)) o.0 a.2 in
+    let first = takes (laws.mark symbol) ts a.0.1 a.0.0 a.1 in
+    let second = t a.0.1 c.0.1 c.0.0 c.1 in
+    let inner = ap (λ z. length z.1) (ok_same c.2) in
+    let outer = ap (λ z. length z.1) (ok_same o.2) in
+    omega (arith, inner, outer)
+
+pub taken : {A : Type 0} {p : Parser A} → TakesSome p → Sound (λ us x. Unit {0}) p
+taken t = record { reads = λ ts rest x e. let front = t ts rest x e in (front.0 ∷ front.1, front.2, tt) }
+
+-- how a block begins
+pub block_first : {A : Type 0} (set : List Terminal) (p : Parser A) (at : At) (x : A) (ts us : List Lexeme) → here ts ≡ Some (at, ts) → item at.column p ts ≡ Some (x, us)
+    → block set p ts ≡ with_front (x ∷ []) (items set p at.column us)
+unfolding block
+block_first set p at x ts us h e = rw h (with_one (item at.column p) (items set p at.column) x ts us e)
+
+-- how a list doesn't begin
+pub none_of : {A : Type 0} (p : Parser A) (q : Parser (List A)) (ts : List Lexeme) → p ts ≡ None → ◌<$>◌ (λ x. x.0 ∷ x.1) (◌⊗◌ p q) ts ≡ None
+none_of p q ts e = rw e
