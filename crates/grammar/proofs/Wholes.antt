@@ -1,11 +1,12 @@
 -- What is answered of a whole list of tokens, by a parser that gives each tree within a limit.
-use Rattle.std.proofs.Common.{◌≡◌, ◌≢◌, ℕ, ◌≤◌, Bool, true, false, if◌then◌else◌, List, [], ◌∷◌, Some, None, Ok, Err, refl, sym, ◌∙◌, ap, subst}
+use Rattle.std.proofs.Common.{◌≡◌, ◌≢◌, ℕ, ◌≤◌, Bool, true, false, ◌&&◌, List, [], ◌∷◌, Some, None, Ok, Err, refl, sym, ◌∙◌, ap, subst}
 use Rattle.std.specs.Prelude.{◌↔◌, IsTrue, Result, IfOk, IfErr, MatchResult}
 use Rattle.elm_base.specs.Lexemes.{Lexeme}
 use Rattle.elm_base.specs.declared.memory.Halt.{Halt}
 use Rattle.elm_base.specs.declared.memory.Halt.TheVariants as halt
 use Rattle.grammar.specs.declared.cursor.NoTree.{NoTree}
 use Rattle.grammar.specs.Reader.{Parser, is_done}
+use Rattle.grammar.specs.Wholes.{Entire}
 use Rattle.grammar.proofs.Laws.{ok_same}
 
 -- the parser gives what derives, and gives all that derives within the limit
@@ -34,25 +35,24 @@ module _ {X : Type 0} {Derives : List Lexeme → X → Type 0} {nesting : X → 
     refused = λ other x w h. other (only_memory ts cause e x w h);
   }
 
-  given : (ts rest : List Lexeme) (x y : X) → p ts ≡ Some (y, rest) → Derives ts x → nesting x ≤ limit → (y ≡ x) × (rest ≡ [])
-  given ts rest x y e w h = let is = ok_same (sym e ∙ d.complete ts x w h) in (ap (λ z. z.0) is, ap (λ z. z.1) is)
+  read_as : (ts rest : List Lexeme) (x y : X) → p ts ≡ Some (y, rest) → Derives ts x → nesting x ≤ limit → (y ≡ x) × (rest ≡ [])
+  read_as ts rest x y e w h = let is = ok_same (sym e ∙ d.complete ts x w h) in (ap (λ z. z.0) is, ap (λ z. z.1) is)
 
   -- what is read is answered where no token is left and it nests within the limit
-  pub one_answered : (ts rest : List Lexeme) (y : X) (passes : Bool) (reason : NoTree) → p ts ≡ Some (y, rest) → IsTrue passes ↔ ((is_done rest ≡ true) × (nesting y ≤ limit))
-      → Answered Derives nesting limit ts (if passes then Ok y else Err (halt.Because reason))
-  one_answered ts rest y true reason e both =
-      let is = both.0 refl in
-      record {
-        derives = d.sound ts rest y e is.0;
-        nests = is.1;
-        found = λ x w h. (given ts rest x y e w h).0;
-        refused = tt;
-      }
-  one_answered ts rest y false reason e both =
+  pub one_answered : (ts rest : List Lexeme) (y : X) (nests : Bool) (r : Result X (Halt NoTree)) → p ts ≡ Some (y, rest) → IsTrue nests ↔ (nesting y ≤ limit)
+      → Entire (is_done rest) nests y r → Answered Derives nesting limit ts r
+  one_answered ts rest y nests (Ok given) e both is = record {
+    derives = subst (Derives ts) (sym is.2) (d.sound ts rest y e is.0);
+    nests = subst (λ (z : X). nesting z ≤ limit) (sym is.2) (both.0 is.1);
+    found = λ x w h. is.2 ∙ (read_as ts rest x y e w h).0;
+    refused = tt;
+  }
+  one_answered ts rest y nests (Err cause) e both is =
       let none : (x : X) → Derives ts x → nesting x ≤ limit → ⊥ =
       λ x w h.
-      let is = given ts rest x y e w h in
-      let so = both.1 (ap is_done is.1, subst (λ (z : X). nesting z ≤ limit) (sym is.0) h) in cc
+      let same = read_as ts rest x y e w h in
+      let so = both.1 (subst (λ (z : X). nesting z ≤ limit) (sym same.0) h) in
+      let done = ap is_done same.1 in cc
       in
       record {
         derives = tt;
