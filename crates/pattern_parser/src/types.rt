@@ -5,6 +5,7 @@ ghost use Rattle.elm_base.specs.declared.tree.TypeTree.{TypeTree};
 ghost use Rattle.elm_base.specs.Lexemes.{Lexeme, lexeme};
 ghost use Rattle.grammar.specs.Terminals.{starts};
 ghost use Rattle.grammar.specs.Reader.{Reads, with_front};
+ghost use Rattle.grammar.specs.Lists as list;
 ghost use Rattle.tree_nesting.specs.Nesting.{max_nesting, type_nesting};
 ghost use Rattle.pattern_parser.specs.Types as grammar;
 ghost use Rattle.pattern_parser.specs.Types.{DerivesType};
@@ -13,10 +14,21 @@ ghost use Rattle.pattern_parser.specs.TypeReader.{named_by};
 ghost use Rattle.pattern_parser.specs.TypeCalls.{ReadsTypes};
 
 use elm_base::{At, Halt, Spot, Token, TypeTree};
-use grammar::{Cursor, MOST_PARTS, NoTree, Terminal, boxed_pair, paired, terminated, verified};
+use grammar::{
+    Cursor, MOST_PARTS, NoTree, Terminal, boxed_pair, entire, many, many_more, paired, separated,
+    terminated, verified,
+};
 use sqlite_items::{Boxed, Items};
 use std::alloc::{AllocError, Global};
 use tree_nesting::{MOST_NESTING, type_nests_within};
+
+/// What an argument begins with, and so a type.
+const ARGUMENTS: [Terminal; 4] = [
+    Terminal::Upper,
+    Terminal::Lower,
+    Terminal::LeftParen,
+    Terminal::LeftBrace,
+];
 
 /// Of a type that nests within the limit, so many whole types stand inside each other at most.
 const DEPTH: usize = 101;
@@ -48,15 +60,6 @@ fn bare(alloc: Global, tokens: &mut Cursor<'_>) -> Result<TypeTree, Halt<NoTree>
         name,
         arguments,
     })
-}
-
-fn begins_argument(tokens: &Cursor<'_>) -> bool
-    ensures { result ≡ starts spec.arguments_begin tokens.now }
-{
-    tokens.sees(Terminal::Upper)
-        || tokens.sees(Terminal::Lower)
-        || tokens.sees(Terminal::LeftParen)
-        || tokens.sees(Terminal::LeftBrace)
 }
 
 /// What brackets round these types make.
@@ -125,26 +128,13 @@ impl<F: Fn(Global, usize, &mut Cursor<'_>) -> Result<TypeTree, Halt<NoTree>>> Ty
         (self.whole)(self.alloc, self.depth, tokens)
     }
 
-    #[tactic(auto, unfolding(crate::specs::TypeReader::next))]
-    fn next(&self, tokens: &mut Cursor<'_>) -> Result<TypeTree, Halt<NoTree>>
-        requires { ReadsTypes self.now.depth (F.pre self.now.whole) (F.post self.now.whole) }
-        ensures { Reads (spec.next (spec.type_at self.now.depth) tokens.old) result tokens.new }
-    {
-        tokens.expect(Terminal::Comma)?;
-        self.whole(tokens)
-    }
-
     /// One or more types with commas between.
     fn types(&self, tokens: &mut Cursor<'_>) -> Result<Items<TypeTree>, Halt<NoTree>>
         requires { ReadsTypes self.now.depth (F.pre self.now.whole) (F.post self.now.whole) }
-        ensures { Reads (spec.types (spec.type_at self.now.depth) tokens.old) result tokens.new }
+        ensures { Reads (list.separated (spec.type_at self.now.depth) tokens.old) result tokens.new }
     {
-        let mut found = Items::new(self.alloc);
-        found.push(self.whole(tokens)?)?;
-        'turns: while tokens.sees(Terminal::Comma) {
-            found.push(self.next(tokens)?)?;
-        }
-        Ok(found)
+        let whole = |tokens: &mut Cursor<'_>| self.whole(tokens);
+        separated(self.alloc, whole, tokens)
     }
 
     #[tactic(auto, unfolding(crate::specs::TypeReader::inside_brackets))]
@@ -152,7 +142,7 @@ impl<F: Fn(Global, usize, &mut Cursor<'_>) -> Result<TypeTree, Halt<NoTree>>> Ty
         requires { ReadsTypes self.now.depth (F.pre self.now.whole) (F.post self.now.whole) }
         ensures { Reads (spec.inside_brackets (spec.type_at self.now.depth) tokens.old) result tokens.new }
     {
-        if !begins_argument(tokens) {
+        if !tokens.sees_any(&ARGUMENTS) {
             return Ok(Items::new(self.alloc));
         }
         let found = self.types(tokens)?;
@@ -201,25 +191,26 @@ impl<F: Fn(Global, usize, &mut Cursor<'_>) -> Result<TypeTree, Halt<NoTree>>> Ty
     {
         let mut found = Items::new(self.alloc);
         found.push(first)?;
-        'turns: while tokens.sees(Terminal::Comma) {
-            found.push(self.next_field(tokens)?)?;
-        }
-        Ok(found)
+        let next = |tokens: &mut Cursor<'_>| self.next_field(tokens);
+        many_more(found, &[Terminal::Comma], next, tokens)
     }
 
     /// One or more fields with commas between.
-    #[tactic(auto, unfolding(crate::specs::TypeReader::fields))]
     fn fields(&self, tokens: &mut Cursor<'_>) -> Result<Items<FieldOfType>, Halt<NoTree>>
         requires { ReadsTypes self.now.depth (F.pre self.now.whole) (F.post self.now.whole) }
-        ensures { Reads (spec.fields (spec.type_at self.now.depth) tokens.old) result tokens.new }
+        ensures { Reads (list.separated (spec.field (spec.type_at self.now.depth)) tokens.old) result tokens.new }
     {
-        let first = self.field(tokens)?;
-        self.fields_from(first, tokens)
+        let field = |tokens: &mut Cursor<'_>| self.field(tokens);
+        separated(self.alloc, field, tokens)
     }
 
     /// The fields behind a bar, which stands behind the variable.
     #[tactic(auto, unfolding(crate::specs::TypeReader::behind_variable))]
-    fn behind_variable(&self, variable: Spot, tokens: &mut Cursor<'_>) -> Result<Inside, Halt<NoTree>>
+    fn behind_variable(
+        &self,
+        variable: Spot,
+        tokens: &mut Cursor<'_>,
+    ) -> Result<Inside, Halt<NoTree>>
         requires { ReadsTypes self.now.depth (F.pre self.now.whole) (F.post self.now.whole) }
         ensures { Reads (named_by variable (spec.behind_variable (spec.type_at self.now.depth) tokens.old)) result tokens.new }
     {
@@ -272,8 +263,11 @@ impl<F: Fn(Global, usize, &mut Cursor<'_>) -> Result<TypeTree, Halt<NoTree>>> Ty
     {
         let at = tokens.here()?;
         tokens.expect(Terminal::LeftBrace)?;
-        let (before, fields) =
-            terminated(self.inside_braces(tokens)?, tokens, Terminal::RightBrace)?;
+        let (before, fields) = terminated(
+            self.inside_braces(tokens)?,
+            tokens,
+            Terminal::RightBrace,
+        )?;
         Ok(TypeTree::Fields { at, before, fields })
     }
 
@@ -308,11 +302,8 @@ impl<F: Fn(Global, usize, &mut Cursor<'_>) -> Result<TypeTree, Halt<NoTree>>> Ty
         requires { ReadsTypes self.now.depth (F.pre self.now.whole) (F.post self.now.whole) }
         ensures { Reads (spec.arguments (spec.type_at self.now.depth) tokens.old) result tokens.new }
     {
-        let mut found = Items::new(self.alloc);
-        'turns: while begins_argument(tokens) {
-            found.push(self.argument(tokens)?)?;
-        }
-        Ok(found)
+        let argument = |tokens: &mut Cursor<'_>| self.argument(tokens);
+        many(self.alloc, &ARGUMENTS, argument, tokens)
     }
 
     #[tactic(auto, unfolding(crate::specs::TypeReader::applied))]
@@ -380,8 +371,8 @@ pub fn type_text(alloc: Global, tokens: &[Token<'_>]) -> Result<TypeTree, Halt<N
 {
     let mut cursor = Cursor::new(tokens);
     let found = type_at(alloc, DEPTH, &mut cursor)?;
-    let passes = cursor.is_empty() && type_nests_within(&found, MOST_NESTING);
-    verified(found, passes, Halt::Because(NoTree))
+    let nests = type_nests_within(&found, MOST_NESTING);
+    entire(found, &cursor, nests)
 }
 
 /// A list of tokens stands for at most one type, however deep it nests.
