@@ -1,12 +1,9 @@
 -- A pattern derives at any depth that its nesting needs, and so only one derives from a list of tokens.
-use Rattle.std.proofs.Common.{◌≡◌, ◌≢◌, ℕ, zero, suc, ◌<◌, ◌≤◌, max, true, false, List, [], ◌∷◌, Option, Some, None, refl, sym, ◌∙◌, ap, subst, append-nil, arith}
-use Rattle.elm_base.specs.declared.memory.Halt.{Halt}
-use Rattle.elm_base.specs.declared.memory.Halt.TheVariants as halt
+use Rattle.std.proofs.Common.{◌≡◌, ℕ, zero, suc, ◌<◌, ◌≤◌, max, true, List, [], ◌∷◌, Option, Some, None, refl, sym, ◌∙◌, ap, subst, append-nil, arith}
 use Rattle.elm_base.specs.declared.token.At.{At}
 use Rattle.elm_base.specs.declared.tree.Spot.{Spot}
 use Rattle.elm_base.specs.declared.tree.Pattern.{Pattern}
 use Rattle.elm_base.specs.Lexemes.{Lexeme}
-use Rattle.grammar.specs.declared.cursor.NoTree.{NoTree}
 use Rattle.grammar.specs.declared.terminal.Terminal.TheVariants as k
 use Rattle.grammar.specs.Rules as rule
 use Rattle.grammar.specs.Rules.{Rule, at_most_nine}
