@@ -10,5 +10,6 @@ pub mod Choice
 pub mod Follows
 pub mod Items
 pub mod Cut
+pub mod Wholes
 pub mod ListLaws
 pub mod ListTurns

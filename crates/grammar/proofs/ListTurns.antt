@@ -1,9 +1,8 @@
 -- What a function value reads of a list takes a token at least.
-use Rattle.std.proofs.Common.{◌≡◌, ◌<◌, ◌≤◌, ◌+◌, false, List, [], ◌∷◌, ◌++◌, length, ap, arith, length-append, Some, None}
+use Rattle.std.proofs.Common.{◌≡◌, false, List, [], ◌∷◌, ◌++◌, length, ap, arith, length-append, Some, None}
 use Rattle.elm_base.specs.declared.token.At.{At}
 use Rattle.elm_base.specs.Lexemes.{Lexeme}
 use Rattle.grammar.specs.declared.terminal.Terminal.{Terminal}
-use Rattle.grammar.specs.declared.terminal.Terminal.TheVariants as k
 use Rattle.grammar.specs.Rules.{Rule}
 use Rattle.grammar.specs.Reader.{Parser, and_then, here, mark, item, items, block, with_front, ◌⊗◌, ◌▷◌, ◌<$>◌}
 use Rattle.grammar.specs.Lists.{TakesSome}

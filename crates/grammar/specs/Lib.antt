@@ -3,3 +3,4 @@ pub mod Rules
 pub mod Reader
 pub mod Spelling
 pub mod Lists
+pub mod Wholes

@@ -27,3 +27,7 @@ pub record ReadsItems {A : Type 0} (p : Parser A) (pre : MutBor (List Lexeme) �
   pub callable : (old : MutBor (List Lexeme)) → pre old
   pub reads : (old new : MutBor (List Lexeme)) (r : Result A (Halt NoTree)) → post old r new → Reads (p old.now) r new.now
   pub takes : TakesSome p
+
+-- it reads what some parser reads
+abbrev pub IsReader : {A : Type 0} → (MutBor (List Lexeme) → Type 0) → (MutBor (List Lexeme) → Result A (Halt NoTree) → MutBor (List Lexeme) → Type 0) → Type 0
+IsReader {A} pre post = (p : Parser A) × ReadsItems p pre post

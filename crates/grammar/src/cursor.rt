@@ -75,6 +75,20 @@ impl<'a> Cursor<'a> {
         }
     }
 
+    /// Whether the next token is one of these.
+    pub fn sees_any(&self, set: &[Terminal]) -> bool
+        ensures { result ≡ starts set.now self.now }
+    {
+        let mut rest = set;
+        'terminals: while let [symbol, more @ ..] = rest {
+            if self.sees(*symbol) {
+                return true;
+            }
+            rest = more;
+        }
+        false
+    }
+
     /// Whether the token behind the next one is this one.
     pub fn sees_second(&self, symbol: Terminal) -> bool
         ensures { result ≡ starts (symbol ∷ []) (drop 1 self.now) }

@@ -9,6 +9,6 @@ mod terminal;
 mod values;
 
 pub use cursor::{Cursor, MOST_PARTS, NoTree};
-pub use lists::{block, many, many_more, sees_any, separated, some};
+pub use lists::{block, many, many_more, separated, some};
 pub use terminal::Terminal;
-pub use values::{boxed_pair, paired, terminated, verified};
+pub use values::{boxed_pair, entire, paired, terminated, verified};

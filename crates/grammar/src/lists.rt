@@ -1,31 +1,16 @@
 //! Lists of items that a function value reads. It is named by the parser that it gives, which each caller picks.
 ghost use Rattle.std.specs.Prelude.{◌≡◌};
 ghost use Rattle.grammar.specs.declared.terminal.Terminal.TheVariants as k;
-ghost use Rattle.grammar.specs.Terminals.{starts};
 ghost use Rattle.grammar.specs.Reader as spec;
 ghost use Rattle.grammar.specs.Reader.{Parser, Reads, with_front};
 ghost use Rattle.grammar.specs.Lists as lists;
-ghost use Rattle.grammar.specs.Lists.{ReadsItems};
+ghost use Rattle.grammar.specs.Lists.{IsReader, ReadsItems};
 
 use crate::cursor::{Cursor, NoTree};
 use crate::terminal::Terminal;
 use elm_base::Halt;
 use sqlite_items::Items;
 use std::alloc::Global;
-
-/// Whether the next token is one of these.
-pub fn sees_any(tokens: &Cursor<'_>, set: &[Terminal]) -> bool
-    ensures { result ≡ starts set.now tokens.now }
-{
-    let mut rest = set;
-    'terminals: while let [symbol, more @ ..] = rest {
-        if tokens.sees(*symbol) {
-            return true;
-        }
-        rest = more;
-    }
-    false
-}
 
 /// Those found before, and an item as long as the next token is one of these.
 pub fn many_more<T: Drop, F: Fn(&mut Cursor<'_>) -> Result<T, Halt<NoTree>>>(
@@ -34,11 +19,10 @@ pub fn many_more<T: Drop, F: Fn(&mut Cursor<'_>) -> Result<T, Halt<NoTree>>>(
     next: F,
     tokens: &mut Cursor<'_>,
 ) -> Result<Items<T>, Halt<NoTree>>
-    ghost p: { Parser T }
-    requires { ReadsItems p (F.pre next) (F.post next) }
-    ensures { Reads (with_front found (spec.many set.now p tokens.old)) result tokens.new }
+    requires { IsReader (F.pre next) (F.post next) }
+    ensures { (p : Parser T) → ReadsItems p (F.pre next) (F.post next) → Reads (with_front found (spec.many set.now p tokens.old)) result tokens.new }
 {
-    'turns: while sees_any(tokens, set) {
+    'turns: while tokens.sees_any(set) {
         found.push(next(tokens)?)?;
     }
     Ok(found)
@@ -51,9 +35,8 @@ pub fn many<T: Drop, F: Fn(&mut Cursor<'_>) -> Result<T, Halt<NoTree>>>(
     next: F,
     tokens: &mut Cursor<'_>,
 ) -> Result<Items<T>, Halt<NoTree>>
-    ghost p: { Parser T }
-    requires { ReadsItems p (F.pre next) (F.post next) }
-    ensures { Reads (spec.many set.now p tokens.old) result tokens.new }
+    requires { IsReader (F.pre next) (F.post next) }
+    ensures { (p : Parser T) → ReadsItems p (F.pre next) (F.post next) → Reads (spec.many set.now p tokens.old) result tokens.new }
 {
     many_more(Items::new(alloc), set, next, tokens)
 }
@@ -66,9 +49,8 @@ pub fn some<T: Drop, F: Fn(&mut Cursor<'_>) -> Result<T, Halt<NoTree>>>(
     next: F,
     tokens: &mut Cursor<'_>,
 ) -> Result<Items<T>, Halt<NoTree>>
-    ghost p: { Parser T }
-    requires { ReadsItems p (F.pre next) (F.post next) }
-    ensures { Reads (lists.some set.now p tokens.old) result tokens.new }
+    requires { IsReader (F.pre next) (F.post next) }
+    ensures { (p : Parser T) → ReadsItems p (F.pre next) (F.post next) → Reads (lists.some set.now p tokens.old) result tokens.new }
 {
     let mut found = Items::new(alloc);
     found.push(next(tokens)?)?;
@@ -80,9 +62,8 @@ fn behind_comma<T: Drop, F: Fn(&mut Cursor<'_>) -> Result<T, Halt<NoTree>>>(
     next: &F,
     tokens: &mut Cursor<'_>,
 ) -> Result<T, Halt<NoTree>>
-    ghost p: { Parser T }
-    requires { ReadsItems p (F.pre next.now) (F.post next.now) }
-    ensures { Reads ((spec.◌▷◌ (spec.mark k.Comma) p) tokens.old) result tokens.new }
+    requires { IsReader (F.pre next.now) (F.post next.now) }
+    ensures { (p : Parser T) → ReadsItems p (F.pre next.now) (F.post next.now) → Reads ((spec.◌▷◌ (spec.mark k.Comma) p) tokens.old) result tokens.new }
 {
     tokens.expect(Terminal::Comma)?;
     next(tokens)
@@ -94,9 +75,8 @@ pub fn separated<T: Drop, F: Fn(&mut Cursor<'_>) -> Result<T, Halt<NoTree>>>(
     next: F,
     tokens: &mut Cursor<'_>,
 ) -> Result<Items<T>, Halt<NoTree>>
-    ghost p: { Parser T }
-    requires { ReadsItems p (F.pre next) (F.post next) }
-    ensures { Reads (lists.separated p tokens.old) result tokens.new }
+    requires { IsReader (F.pre next) (F.post next) }
+    ensures { (p : Parser T) → ReadsItems p (F.pre next) (F.post next) → Reads (lists.separated p tokens.old) result tokens.new }
 {
     let mut found = Items::new(alloc);
     found.push(next(tokens)?)?;
@@ -110,7 +90,7 @@ pub fn separated<T: Drop, F: Fn(&mut Cursor<'_>) -> Result<T, Halt<NoTree>>>(
 fn begins(tokens: &Cursor<'_>, column: u32, set: &[Terminal]) -> bool
     ensures { result ≡ spec.begins column set.now tokens.now }
 {
-    tokens.stands_in(column) && sees_any(tokens, set)
+    tokens.stands_in(column) && tokens.sees_any(set)
 }
 
 /// An item whose tokens behind the first stand to the right of the column.
@@ -119,9 +99,8 @@ fn item<T: Drop, F: Fn(&mut Cursor<'_>) -> Result<T, Halt<NoTree>>>(
     next: &F,
     tokens: &mut Cursor<'_>,
 ) -> Result<T, Halt<NoTree>>
-    ghost p: { Parser T }
-    requires { ReadsItems p (F.pre next.now) (F.post next.now) }
-    ensures { Reads (spec.item column p tokens.old) result tokens.new }
+    requires { IsReader (F.pre next.now) (F.post next.now) }
+    ensures { (p : Parser T) → ReadsItems p (F.pre next.now) (F.post next.now) → Reads (spec.item column p tokens.old) result tokens.new }
 {
     let len = tokens.extent(column);
     let mut front = tokens.front(len);
@@ -137,9 +116,8 @@ pub fn block<T: Drop, F: Fn(&mut Cursor<'_>) -> Result<T, Halt<NoTree>>>(
     next: F,
     tokens: &mut Cursor<'_>,
 ) -> Result<Items<T>, Halt<NoTree>>
-    ghost p: { Parser T }
-    requires { ReadsItems p (F.pre next) (F.post next) }
-    ensures { Reads (spec.block set.now p tokens.old) result tokens.new }
+    requires { IsReader (F.pre next) (F.post next) }
+    ensures { (p : Parser T) → ReadsItems p (F.pre next) (F.post next) → Reads (spec.block set.now p tokens.old) result tokens.new }
 {
     let column = tokens.here()?.column;
     let mut found = Items::new(alloc);

@@ -3,6 +3,7 @@
 ghost use Rattle.std.specs.Prelude.{◌≡◌, ◌≢◌, Some, None, Ok, Err, if◌then◌else◌, IfOk, MatchResult};
 ghost use Rattle.elm_base.specs.declared.memory.Halt.TheVariants as halt;
 ghost use Rattle.grammar.specs.Reader as spec;
+ghost use Rattle.grammar.specs.Wholes.{Entire};
 
 use crate::cursor::{Cursor, NoTree};
 use crate::terminal::Terminal;
@@ -28,6 +29,13 @@ pub fn verified<T: Drop, E: Drop>(value: T, passes: bool, error: E) -> Result<T,
     ensures { result ≡ (if passes then Ok value else Err error) }
 {
     if passes { Ok(value) } else { Err(error) }
+}
+
+/// The tree, where no token is left behind it and it nests within the limit.
+pub fn entire<T: Drop>(tree: T, tokens: &Cursor<'_>, nests: bool) -> Result<T, Halt<NoTree>>
+    ensures { Entire (spec.is_done tokens.now) nests tree result }
+{
+    verified(tree, tokens.is_empty() && nests, Halt::Because(NoTree))
 }
 
 /// Both values, where there is a second one.

@@ -10,34 +10,34 @@ use Rattle.grammar.proofs.lists.separated.Goals as goal
 
 pub returns-in_err-next : goal.returns-in_err-next
 unfolding lists.separated
-returns-in_err-next g c =
-    let p = err_from_is_err_and c.from_residual.result c.from_residual.ensures.1 in
-    rw (p.1, p.2) (λ h. none_of g.p (many (k.Comma ∷ []) (mark k.Comma ▷ g.p)) c.args.tokens.now (c.requires.1.1.reads _ _ _ c.in_err-next.ensures h))
+returns-in_err-next g c = λ p r.
+    let e = err_from_is_err_and c.from_residual.result c.from_residual.ensures.1 in
+    rw (e.1, e.2) (λ h. none_of p (many (k.Comma ∷ []) (mark k.Comma ▷ p)) c.args.tokens.now (r.reads _ _ _ c.in_err-next.ensures h))
 
 pub turns-init : goal.turns-init
 unfolding lists.separated
-turns-init g c =
+turns-init g c = λ p r.
     rw (c.in_ok-push.ensures.ok, c.new-found.ensures)
-    (with_one g.p (many (k.Comma ∷ []) (mark k.Comma ▷ g.p)) _ c.args.tokens.now _ (c.requires.1.1.reads _ _ _ c.in_ok-next.ensures))
+    (with_one p (many (k.Comma ∷ []) (mark k.Comma ▷ p)) _ c.args.tokens.now _ (r.reads _ _ _ c.in_ok-next.ensures))
 
 pub returns-in_err-behind_comma : goal.returns-in_err-behind_comma
 unfolding many
-returns-in_err-behind_comma g c =
-    let p = err_from_is_err_and c.from_residual-in_err-behind_comma.result c.from_residual-in_err-behind_comma.ensures.1 in
-    rw (p.1, p.2)
-    (loop_err (starts (k.Comma ∷ [])) (mark k.Comma ▷ g.p) refl (behind_takes k.Comma (shorter c.requires.1.1.takes)) c.turns.found _ c.turns.tokens
-    (sym c.turns-test.ensures) c.in_err-behind_comma.ensures c.turns.invariant)
+returns-in_err-behind_comma g c = λ p r.
+    let e = err_from_is_err_and c.from_residual-in_err-behind_comma.result c.from_residual-in_err-behind_comma.ensures.1 in
+    rw (e.1, e.2)
+    (loop_err (starts (k.Comma ∷ [])) (mark k.Comma ▷ p) refl (behind_takes k.Comma (shorter r.takes)) c.turns.found _ c.turns.tokens
+    (sym c.turns-test.ensures) (c.in_err-behind_comma.ensures p r) (c.turns.invariant p r))
 
 pub turns-smaller : goal.turns-smaller
-turns-smaller g c = behind_takes k.Comma (shorter c.requires.1.1.takes) _ _ _ c.in_ok-behind_comma.ensures
+turns-smaller g c = let r = c.requires.1 in behind_takes k.Comma (shorter r.takes) _ _ _ (c.in_ok-behind_comma.ensures _ r)
 
 pub turns-preserved : goal.turns-preserved
 unfolding many
-turns-preserved g c =
+turns-preserved g c = λ p r.
     rw c.in_ok-push-2.ensures.ok
-    (loop_turn (starts (k.Comma ∷ [])) (mark k.Comma ▷ g.p) refl (behind_takes k.Comma (shorter c.requires.1.1.takes)) c.turns.found _ c.turns.tokens _
-    (sym c.turns-test.ensures) c.in_ok-behind_comma.ensures c.turns.invariant)
+    (loop_turn (starts (k.Comma ∷ [])) (mark k.Comma ▷ p) refl (behind_takes k.Comma (shorter r.takes)) c.turns.found _ c.turns.tokens _
+    (sym c.turns-test.ensures) (c.in_ok-behind_comma.ensures p r) (c.turns.invariant p r))
 
 pub returns : goal.returns
 unfolding many
-returns g c = loop_ends (starts (k.Comma ∷ [])) (mark k.Comma ▷ g.p) c.turns.found c.turns.tokens (sym c.turns-test.ensures) c.turns.invariant
+returns g c = λ p r. loop_ends (starts (k.Comma ∷ [])) (mark k.Comma ▷ p) c.turns.found c.turns.tokens (sym c.turns-test.ensures) (c.turns.invariant p r)

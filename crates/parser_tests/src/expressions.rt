@@ -1,38 +1,7 @@
-use crate::show::put_expr;
-use elm_base::{Expr, Halt};
-use expr_parser::{NoTree, expr, one_expr};
-use layout_lexer::tokens;
-use std::alloc::{AllocError, Global};
+use crate::form::{along, around, check_nesting};
+use crate::reading::{Reading, written};
+use expr_parser::one_expr;
 use std::test::Fail;
-
-fn refusal(halt: Halt<NoTree>) -> &'static str {
-    match halt {
-        Halt::Because(NoTree) => "NoTree",
-        Halt::NoMemory => "NoMemory",
-    }
-}
-
-/// The text's tree, or why it has none.
-fn tree_of(alloc: Global, text: &str) -> Result<Expr, &'static str> {
-    match tokens(alloc, text.as_bytes()) {
-        Err(_) => Err("no tokens"),
-        Ok(tokens) => match expr(alloc, tokens.as_slice()) {
-            Err(halt) => Err(refusal(halt)),
-            Ok(tree) => Ok(tree),
-        },
-    }
-}
-
-fn written(alloc: Global, text: &str) -> Result<String, AllocError> {
-    match tree_of(alloc, text) {
-        Err(why) => String::from_str(alloc, why),
-        Ok(tree) => {
-            let mut out = String::new(alloc);
-            put_expr(&mut out, &tree)?;
-            Ok(out)
-        }
-    }
-}
 
 const ACCEPTED: [(&str, &str); 93] = [
     ("1", "1"),
@@ -186,9 +155,8 @@ const ACCEPTED: [(&str, &str); 93] = [
 
 #[test]
 fn texts_have_their_trees(rt: HostRuntime) -> Result<(), Fail> {
-    let alloc = rt.alloc();
     for (text, wanted) in &ACCEPTED {
-        let found = written(alloc, text)?;
+        let found = written(rt.alloc(), Reading::Expression, text)?;
         assert_eq!(rt; found.as_str(), *wanted, "{text}");
     }
     one_expr();
@@ -303,78 +271,15 @@ const REFUSED_IN_LINES: [&str; 9] = [
 
 #[test]
 fn other_texts_have_none(rt: HostRuntime) -> Result<(), Fail> {
-    let alloc = rt.alloc();
-    for text in &REFUSED {
-        let found = written(alloc, text)?;
-        assert_eq!(rt; found.as_str(), "NoTree", "{text}");
-    }
-    for text in &REFUSED_IN_LINES {
-        let found = written(alloc, text)?;
+    for text in REFUSED.iter().chain(&REFUSED_IN_LINES) {
+        let found = written(rt.alloc(), Reading::Expression, text)?;
         assert_eq!(rt; found.as_str(), "NoTree", "{text}");
     }
     Ok(())
 }
 
-/// A text that nests: what stands first, then `front` some times, `middle`, `back` as often, and what stands last.
-#[derive(Drop)]
-struct Form {
-    first: &'static str,
-    front: &'static str,
-    middle: &'static str,
-    back: &'static str,
-    last: &'static str,
-    /// How often the parts stand in the deepest tree that is accepted.
-    most: usize,
-}
-
-impl Form {
-    fn text(&self, alloc: Global, times: usize) -> Result<String, AllocError> {
-        let mut text = String::from_str(alloc, self.first)?;
-        for _ in 0..times {
-            text.push_str(self.front)?;
-        }
-        text.push_str(self.middle)?;
-        for _ in 0..times {
-            text.push_str(self.back)?;
-        }
-        text.push_str(self.last)?;
-        Ok(text)
-    }
-
-    fn said(&self, alloc: Global, times: usize) -> Result<&'static str, AllocError> {
-        let text = self.text(alloc, times)?;
-        match tree_of(alloc, text.as_str()) {
-            Ok(_) => Ok("a tree"),
-            Err(why) => Ok(why),
-        }
-    }
-}
-
-fn around(front: &'static str, back: &'static str, most: usize) -> Form {
-    Form {
-        first: "",
-        front,
-        middle: "a",
-        back,
-        last: "",
-        most,
-    }
-}
-
-fn along(first: &'static str, front: &'static str, last: &'static str, most: usize) -> Form {
-    Form {
-        first,
-        front,
-        middle: "",
-        back: "",
-        last,
-        most,
-    }
-}
-
 #[test]
 fn expressions_nest_at_most_100_deep(rt: HostRuntime) -> Result<(), Fail> {
-    let alloc = rt.alloc();
     let forms = [
         around("(", ")", 100),
         around("[", "]", 100),
@@ -399,16 +304,5 @@ fn expressions_nest_at_most_100_deep(rt: HostRuntime) -> Result<(), Fail> {
         along("\\", "a ", "-> a", 100),
         along("let f ", "a ", "= a in f", 99),
     ];
-    for form in &forms {
-        let front = form.front;
-        let back = form.back;
-        assert_eq!(rt; form.said(alloc, form.most)?, "a tree", "{front} {back}");
-        assert_eq!(rt;
-            form.said(alloc, form.most.saturating_add(1))?,
-            "NoTree",
-            "{front} {back}"
-        );
-        assert_eq!(rt; form.said(alloc, 5000)?, "NoTree", "{front} {back}");
-    }
-    Ok(())
+    check_nesting(&rt, rt.alloc(), Reading::Expression, &forms)
 }
