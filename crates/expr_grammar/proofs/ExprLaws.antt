@@ -1,5 +1,5 @@
 -- An expression derives at any depth that its nesting needs.
-use Rattle.std.proofs.Common.{◌≡◌, ℕ, zero, suc, ◌+◌, ◌<◌, ◌≤◌, max, nat_le, true, false, not, List, [], ◌∷◌, length, map, refl, sym, ◌∙◌, ap, subst, arith, le-leb, ⊎_elim, append-nil, ◌≢◌, Some, None}
+use Rattle.std.proofs.Common.{◌≡◌, ℕ, zero, suc, ◌+◌, ◌<◌, ◌≤◌, max, nat_le, true, false, not, List, [], ◌∷◌, length, map, refl, sym, ◌∙◌, ap, subst, arith, le-leb, ⊎_elim, append-nil, Some}
 use Rattle.elm_base.specs.declared.token.At.{At}
 use Rattle.elm_base.specs.declared.tree.Operator.{Operator}
 use Rattle.elm_base.specs.declared.tree.Pattern.{Pattern}
@@ -22,10 +22,8 @@ use Rattle.expr_grammar.specs.Expressions.{DerivesExpr}
 use Rattle.expr_grammar.specs.ExprReader as m
 use Rattle.grammar.specs.Reader as reader
 use Rattle.grammar.proofs.Laws.{ok_same}
+use Rattle.grammar.proofs.Wholes.{Decides}
 use Rattle.expr_grammar.proofs.ExprReadings.{tree_reads}
-use Rattle.elm_base.specs.declared.memory.Halt.{Halt}
-use Rattle.elm_base.specs.declared.memory.Halt.TheVariants as halt
-use Rattle.grammar.specs.declared.cursor.NoTree.{NoTree}
 use Rattle.tree_nesting.proofs.NestingLaws.{around_each, most_each, map_twice}
 use Rattle.tree_nesting.proofs.ExprNestingLaws.{of_brackets, of_tuple, of_list, of_range, of_fields, of_extend, of_update, of_remove, of_set, of_chain, of_negate, of_call, of_access, of_lambda, of_if, of_guards, of_let, of_case, of_annotation, of_definition, of_pattern_definition}
 use Rattle.grammar.proofs.Shallow.{Shallow, same, when, knowing, Values, seq, by, either, only, at, many, some, after, before, separated, block, linked}
@@ -377,7 +375,7 @@ deep_enough (suc depth) (suc n) =
 
 -- ---- all of the tokens
 
-pub derived_is_read : (n : ℕ) (ts : List Lexeme) (x : Expr) → DerivesExpr ts x → expr_nesting x ≤ n → m.tree_at false (suc n) ts ≡ Some (x, [])
+derived_is_read : (n : ℕ) (ts : List Lexeme) (x : Expr) → DerivesExpr ts x → expr_nesting x ≤ n → m.tree_at false (suc n) ts ≡ Some (x, [])
 derived_is_read n ts x w h =
     let s = deep_enough w.0 n in
     let r = tree_reads (suc n) in
@@ -385,7 +383,7 @@ derived_is_read n ts x w h =
     let u = s.whole in
     sym (ap (m.tree_at false (suc n)) (append-nil ts)) ∙ v.complete ts [] x (u.takes ts x w.1 h) refl
 
-pub read_derives : (n : ℕ) (ts rest : List Lexeme) (x : Expr) → m.tree_at false n ts ≡ Some (x, rest) → reader.is_done rest ≡ true → DerivesExpr ts x
+read_derives : (n : ℕ) (ts rest : List Lexeme) (x : Expr) → m.tree_at false n ts ≡ Some (x, rest) → reader.is_done rest ≡ true → DerivesExpr ts x
 read_derives n ts [] x e d =
     let r = tree_reads n in
     let v = r.whole in
@@ -400,18 +398,5 @@ one_expr ts x y v w =
     let b = derived_is_read n ts y w (omega arith) in
     ap (λ z. z.0) (ok_same (sym a ∙ b))
 
--- ---- what a call answers, where an expression within the limit derives
-
-pub found_it : (n : ℕ) (ts rest : List Lexeme) (x y : Expr) → DerivesExpr ts x → expr_nesting x ≤ n → m.tree_at false (suc n) ts ≡ Some (y, rest) → (y ≡ x) × (rest ≡ [])
-found_it n ts rest x y w h e =
-    let is = ok_same (sym e ∙ derived_is_read n ts x w h) in (ap (λ z. z.0) is, ap (λ z. z.1) is)
-
-pub none_left : (n : ℕ) (ts rest : List Lexeme) (x y : Expr) → DerivesExpr ts x → expr_nesting x ≤ n → m.tree_at false (suc n) ts ≡ Some (y, rest) → reader.is_done rest ≡ false → ⊥
-none_left n ts rest x y w h e d = let f = found_it n ts rest x y w h e in let same_ = ap reader.is_done f.1 in cc
-
-pub only_memory : (n : ℕ) (ts : List Lexeme) (x : Expr) (cause : Halt NoTree) → DerivesExpr ts x → expr_nesting x ≤ n
-    → (cause ≢ halt.NoMemory → m.tree_at false (suc n) ts ≡ None) → cause ≡ halt.NoMemory
-only_memory n ts x halt.NoMemory w h e = refl
-only_memory n ts x (halt.Because reason) w h e =
-    let a = e (λ z. cc) in
-    let b = derived_is_read n ts x w h in cc
+pub decides : (n : ℕ) → Decides DerivesExpr expr_nesting n (m.tree_at false (suc n))
+decides n = record { sound = read_derives (suc n); complete = derived_is_read n }

@@ -89,7 +89,7 @@ operator_name_closes = follows.by _ (follows.by _ (follows.seq sign_reads sign_a
 
 pub commas_read : Reading (rule.only (λ commas. nat_le (length commas) 8) (rule.some (rule.mark k.Comma))) m.commas false (k.Comma ∷ []) (k.Comma ∷ [])
 unfolding m.commas same_terminal
-commas_read = within (only _ (some (mark k.Comma) refl refl)) refl refl
+commas_read = within (only _ (some (mark k.Comma) refl)) refl refl
 
 pub tuple_maker_reads : Reading g.tuple_maker m.tuple_maker false (k.Comma ∷ []) []
 unfolding m.tuple_maker same_terminal
@@ -129,7 +129,7 @@ module _ (depth : ℕ) {W I : Rule Expr} {w i : Parser Expr} (r : Reading W w fa
 
   pub some_parameters_read : Reading (rule.some (g.parameter G)) (lists.some patterns_begin (m.parameter M)) false patterns_begin patterns_begin
   unfolding same_terminal
-  some_parameters_read = within (some parameter_reads refl refl) refl refl
+  some_parameters_read = within (some parameter_reads refl) refl refl
 
   pub compound_reads : Reading (g.compound G) (m.compound M) false (k.LeftParen ∷ k.LeftBrace ∷ []) []
   unfolding m.compound same_terminal
@@ -183,56 +183,42 @@ module _ (depth : ℕ) {W I : Rule Expr} {w i : Parser Expr} (r : Reading W w fa
 
   -- ---- records
 
-  pub equal_reads : Reading (g.set G k.Equals) (m.set M k.Equals) false (k.Lower ∷ []) goes_on
+  pub set_reads : (symbol : Terminal) → Reading (g.set G symbol) (m.set M symbol) false (k.Lower ∷ []) goes_on
   unfolding m.set same_terminal
-  equal_reads = within (by _ (at (seq (name k.Lower) (by _ (seq (mark k.Equals) r refl)) refl))) refl refl
+  set_reads symbol = within (by _ (at (seq (name k.Lower) (by _ (seq (mark symbol) r refl)) refl))) refl refl
 
-  pub equals_read : Reading (rule.separated (g.set G k.Equals)) (m.sets M k.Equals) false (k.Lower ∷ []) (k.Comma ∷ goes_on)
+  pub sets_read : (symbol : Terminal) → Reading (rule.separated (g.set G symbol)) (m.sets M symbol) false (k.Lower ∷ []) (k.Comma ∷ goes_on)
   unfolding same_terminal
-  equals_read = within (separated equal_reads refl refl) refl refl
-
-  pub arrow_reads : Reading (g.set G k.LeftArrow) (m.set M k.LeftArrow) false (k.Lower ∷ []) goes_on
-  unfolding m.set same_terminal
-  arrow_reads = within (by _ (at (seq (name k.Lower) (by _ (seq (mark k.LeftArrow) r refl)) refl))) refl refl
-
-  pub arrows_read : Reading (rule.separated (g.set G k.LeftArrow)) (m.sets M k.LeftArrow) false (k.Lower ∷ []) (k.Comma ∷ goes_on)
-  unfolding same_terminal
-  arrows_read = within (separated arrow_reads refl refl) refl refl
+  sets_read symbol = within (separated (set_reads symbol) refl refl) refl refl
 
   pub fields_read : Reading (g.fields G) (m.fields M) false (k.Lower ∷ []) (k.Comma ∷ goes_on)
   unfolding m.fields same_terminal
-  fields_read = within (by _ equals_read) refl refl
+  fields_read = within (by _ (sets_read k.Equals)) refl refl
 
   pub extended_reads : Reading (g.extended G) (m.extended M) false (k.Lower ∷ []) (k.Comma ∷ goes_on)
   unfolding m.extended same_terminal
-  extended_reads = within (by _ equals_read) refl refl
+  extended_reads = within (by _ (sets_read k.Equals)) refl refl
 
   pub updated_reads : Reading (g.updated G) (m.updated M) false (k.Lower ∷ []) (k.Comma ∷ goes_on)
   unfolding m.updated same_terminal
-  updated_reads = within (by _ arrows_read) refl refl
+  updated_reads = within (by _ (sets_read k.LeftArrow)) refl refl
 
-  -- a name with `=` or with `<-` behind it
-  sets_equal : Follows (rule.separated (g.set G k.Equals)) (k.Lower ∷ []) false (k.Equals ∷ [])
+  -- a name with the token behind it
+  sets_with : (symbol : Terminal) → Follows (rule.separated (g.set G symbol)) (k.Lower ∷ []) false (symbol ∷ [])
   unfolding same_terminal
-  sets_equal =
-      follows.by _ (follows.seq equal_reads (follows.by _ (follows.at (follows.seq (name k.Lower) (follows.one k.Lower _) (by _ (seq (mark k.Equals) r refl)))))
-      (many (by _ (seq (mark k.Comma) equal_reads refl)) refl))
-
-  sets_point : Follows (rule.separated (g.set G k.LeftArrow)) (k.Lower ∷ []) false (k.LeftArrow ∷ [])
-  unfolding same_terminal
-  sets_point =
-      follows.by _ (follows.seq arrow_reads (follows.by _ (follows.at (follows.seq (name k.Lower) (follows.one k.Lower _) (by _ (seq (mark k.LeftArrow) r refl)))))
-      (many (by _ (seq (mark k.Comma) arrow_reads refl)) refl))
+  sets_with symbol =
+      follows.by _ (follows.seq (set_reads symbol) (follows.by _ (follows.at (follows.seq (name k.Lower) (follows.one k.Lower _) (by _ (seq (mark symbol) r refl)))))
+      (many (by _ (seq (mark k.Comma) (set_reads symbol) refl)) refl))
 
   pub behind_bar_reads : Reading (rule.◌▷◌ (rule.mark k.Bar) (rule.◌∣◌ (g.extended G) (g.updated G))) (m.behind_bar M) false (k.Bar ∷ []) (k.Comma ∷ goes_on)
   unfolding m.behind_bar same_terminal
   behind_bar_reads =
       within (by _ (seq (mark k.Bar)
-      (either_two (k.Lower ∷ []) (k.Equals ∷ []) extended_reads (follows.by _ sets_equal) updated_reads (follows.by _ sets_point) refl refl) refl)) refl refl
+      (either_two (k.Lower ∷ []) (k.Equals ∷ []) extended_reads (follows.by _ (sets_with k.Equals)) updated_reads (follows.by _ (sets_with k.LeftArrow)) refl refl) refl)) refl refl
 
   pub new_fields_read : Reading (g.new_fields G) (m.new_fields M) true (k.Bar ∷ []) (k.Comma ∷ goes_on)
   unfolding m.new_fields same_terminal
-  new_fields_read = within (either (by _ (seq (mark k.Bar) equals_read refl)) (nothing []) refl) refl refl
+  new_fields_read = within (either (by _ (seq (mark k.Bar) (sets_read k.Equals) refl)) (nothing []) refl) refl refl
 
   pub removed_reads : Reading (g.removed G) (m.removed M) false (k.Minus ∷ []) (k.Comma ∷ goes_on)
   unfolding m.removed same_terminal
@@ -249,7 +235,7 @@ module _ (depth : ℕ) {W I : Rule Expr} {w i : Parser Expr} (r : Reading W w fa
   pub filled_braces_read : Reading (rule.◌∣◌ (g.fields G) (g.over_record G)) (m.filled_braces M) false atoms_begin (k.Comma ∷ goes_on)
   unfolding m.filled_braces same_terminal
   filled_braces_read =
-      within (either_two (k.Lower ∷ []) (k.Equals ∷ []) fields_read (follows.by _ sets_equal) over_record_reads over_record_named refl refl) refl refl
+      within (either_two (k.Lower ∷ []) (k.Equals ∷ []) fields_read (follows.by _ (sets_with k.Equals)) over_record_reads over_record_named refl refl) refl refl
 
   pub inside_braces_read : Reading (g.inside_braces G) (m.inside_braces M) true atoms_begin (k.Comma ∷ goes_on)
   unfolding m.inside_braces same_terminal
@@ -324,7 +310,7 @@ module _ (depth : ℕ) {W I : Rule Expr} {w i : Parser Expr} (r : Reading W w fa
 
   pub multi_way_reads : Reading (g.multi_way G) (m.multi_way M) false (k.Bar ∷ []) goes_on
   unfolding m.multi_way same_terminal
-  multi_way_reads = within (by _ (some guard_reads refl refl)) refl refl
+  multi_way_reads = within (by _ (some guard_reads refl)) refl refl
 
   pub conditional_reads : Reading (g.conditional G) (m.conditional M) false (k.If ∷ []) goes_on
   unfolding m.conditional same_terminal

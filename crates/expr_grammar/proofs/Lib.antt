@@ -1,3 +1,4 @@
 pub mod GuardLaws
 pub mod ExprReadings
 pub mod ExprLaws
+pub mod Takes

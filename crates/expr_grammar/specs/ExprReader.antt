@@ -170,11 +170,14 @@ module _ (inner : Below) where
   unfoldable pub braces : Parser Expr
   braces = (λ x. x.1 x.0) <$> at (mark k.LeftBrace ▷ inside_braces ◁ mark k.RightBrace)
 
+  abbrev pub with_parts : Parser Expr
+  with_parts = choose (k.LeftParen ∷ []) brackets (choose (k.LeftBracket ∷ []) list braces)
+
   unfoldable pub primary : Parser Expr
   primary =
       choose (k.Int ∷ []) int (choose (k.Char ∷ []) char_ (choose (k.Text ∷ []) text
       (choose (k.Lower ∷ k.QualifiedLower ∷ []) variable (choose (k.Upper ∷ []) constructor (choose (k.FieldFunction ∷ []) field_function
-      (choose (k.LeftParen ∷ []) brackets (choose (k.LeftBracket ∷ []) list braces)))))))
+      with_parts)))))
 
   unfoldable pub accesses : Parser (List (List ℕ))
   accesses = only (λ labels. nat_le (length labels) inner.depth) (many (k.Access ∷ []) (spelled k.Access label_of))
@@ -197,8 +200,14 @@ module _ (inner : Below) where
   unfoldable pub two_way : Parser (At → Expr)
   two_way = (λ x at. e.If at x.0 x.1.0 x.1.1) <$> inner.whole ⊗ (mark k.Then ▷ inner.whole) ⊗ mark k.Else ▷ inner.whole
 
+  abbrev pub closed : Parser Expr
+  closed = only (λ x. not (ends_in_guards x)) inner.whole
+
+  abbrev pub chosen : Parser Expr
+  chosen = mark k.Arrow ▷ closed
+
   unfoldable pub guard : Parser (Expr × Expr)
-  guard = (mark k.Bar ▷ inner.whole) ⊗ mark k.Arrow ▷ only (λ x. not (ends_in_guards x)) inner.whole
+  guard = behind k.Bar ⊗ chosen
 
   unfoldable pub multi_way : Parser (At → Expr)
   multi_way = (λ branches at. e.Guards at branches) <$> some (k.Bar ∷ []) guard
@@ -235,6 +244,9 @@ module _ (inner : Below) where
 
   unfoldable pub last_form : Parser Expr
   last_form = choose (k.Backslash ∷ []) lambda (choose (k.If ∷ []) conditional (choose (k.Let ∷ []) let_in case_of))
+
+  abbrev pub linked_operand : Parser Expr
+  linked_operand = choose last_forms_begin last_form operand
 
   unfoldable pub links : Parser (List (Operator × Expr))
   links = linked operators_begin last_forms_begin operator operand last_form

@@ -1,7 +1,7 @@
 //! What the grammar asks of the form of a tree that has been read.
 ghost use Rattle.std.specs.Prelude.{◌≡◌, map};
 ghost use Rattle.elm_base.specs.declared.tree.Declaration.{out-Declaration};
-ghost use Rattle.expr_parser.specs.Expressions as grammar;
+ghost use Rattle.expr_grammar.specs.Expressions as grammar;
 
 use elm_base::{Declaration, Expr, Name, Pattern};
 
