@@ -69,7 +69,7 @@ pub fn check_nesting(
     for form in forms {
         let front = form.front;
         assert!(rt; form.has_tree(alloc, reading, form.most)?, "{front}");
-        for times in [form.most.saturating_add(1), 20000] {
+        for times in [form.most.saturating_add(1), 5000] {
             assert!(rt;
                 !form.has_tree(alloc, reading, times)?,
                 "{front} {times} times"
