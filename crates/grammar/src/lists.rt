@@ -20,7 +20,8 @@ pub fn many_more<T: Drop, F: Fn(&mut Cursor<'_>) -> Result<T, Halt<NoTree>>>(
     tokens: &mut Cursor<'_>,
 ) -> Result<Items<T>, Halt<NoTree>>
     requires { IsReader (F.pre next) (F.post next) }
-    ensures { (p : Parser T) → ReadsItems p (F.pre next) (F.post next) → Reads (with_front found (spec.many set.now p tokens.old)) result tokens.new }
+    ensures { (p : Parser T) → ReadsItems p (F.pre next) (F.post next) →
+        Reads (with_front found (spec.many set.now p tokens.old)) result tokens.new }
 {
     'turns: while tokens.sees_any(set) {
         found.push(next(tokens)?)?;
@@ -36,7 +37,8 @@ pub fn many<T: Drop, F: Fn(&mut Cursor<'_>) -> Result<T, Halt<NoTree>>>(
     tokens: &mut Cursor<'_>,
 ) -> Result<Items<T>, Halt<NoTree>>
     requires { IsReader (F.pre next) (F.post next) }
-    ensures { (p : Parser T) → ReadsItems p (F.pre next) (F.post next) → Reads (spec.many set.now p tokens.old) result tokens.new }
+    ensures { (p : Parser T) → ReadsItems p (F.pre next) (F.post next) →
+        Reads (spec.many set.now p tokens.old) result tokens.new }
 {
     many_more(Items::new(alloc), set, next, tokens)
 }
@@ -50,7 +52,8 @@ pub fn some<T: Drop, F: Fn(&mut Cursor<'_>) -> Result<T, Halt<NoTree>>>(
     tokens: &mut Cursor<'_>,
 ) -> Result<Items<T>, Halt<NoTree>>
     requires { IsReader (F.pre next) (F.post next) }
-    ensures { (p : Parser T) → ReadsItems p (F.pre next) (F.post next) → Reads (lists.some set.now p tokens.old) result tokens.new }
+    ensures { (p : Parser T) → ReadsItems p (F.pre next) (F.post next) →
+        Reads (lists.some set.now p tokens.old) result tokens.new }
 {
     let mut found = Items::new(alloc);
     found.push(next(tokens)?)?;
@@ -63,7 +66,8 @@ fn behind_comma<T: Drop, F: Fn(&mut Cursor<'_>) -> Result<T, Halt<NoTree>>>(
     tokens: &mut Cursor<'_>,
 ) -> Result<T, Halt<NoTree>>
     requires { IsReader (F.pre next.now) (F.post next.now) }
-    ensures { (p : Parser T) → ReadsItems p (F.pre next.now) (F.post next.now) → Reads ((spec.◌▷◌ (spec.mark k.Comma) p) tokens.old) result tokens.new }
+    ensures { (p : Parser T) → ReadsItems p (F.pre next.now) (F.post next.now) →
+        Reads ((spec.◌▷◌ (spec.mark k.Comma) p) tokens.old) result tokens.new }
 {
     tokens.expect(Terminal::Comma)?;
     next(tokens)
@@ -76,7 +80,8 @@ pub fn separated<T: Drop, F: Fn(&mut Cursor<'_>) -> Result<T, Halt<NoTree>>>(
     tokens: &mut Cursor<'_>,
 ) -> Result<Items<T>, Halt<NoTree>>
     requires { IsReader (F.pre next) (F.post next) }
-    ensures { (p : Parser T) → ReadsItems p (F.pre next) (F.post next) → Reads (lists.separated p tokens.old) result tokens.new }
+    ensures { (p : Parser T) → ReadsItems p (F.pre next) (F.post next) →
+        Reads (lists.separated p tokens.old) result tokens.new }
 {
     let mut found = Items::new(alloc);
     found.push(next(tokens)?)?;
@@ -100,7 +105,8 @@ fn item<T: Drop, F: Fn(&mut Cursor<'_>) -> Result<T, Halt<NoTree>>>(
     tokens: &mut Cursor<'_>,
 ) -> Result<T, Halt<NoTree>>
     requires { IsReader (F.pre next.now) (F.post next.now) }
-    ensures { (p : Parser T) → ReadsItems p (F.pre next.now) (F.post next.now) → Reads (spec.item column p tokens.old) result tokens.new }
+    ensures { (p : Parser T) → ReadsItems p (F.pre next.now) (F.post next.now) →
+        Reads (spec.item column p tokens.old) result tokens.new }
 {
     let len = tokens.extent(column);
     let mut front = tokens.front(len);
@@ -117,7 +123,8 @@ pub fn block<T: Drop, F: Fn(&mut Cursor<'_>) -> Result<T, Halt<NoTree>>>(
     tokens: &mut Cursor<'_>,
 ) -> Result<Items<T>, Halt<NoTree>>
     requires { IsReader (F.pre next) (F.post next) }
-    ensures { (p : Parser T) → ReadsItems p (F.pre next) (F.post next) → Reads (spec.block set.now p tokens.old) result tokens.new }
+    ensures { (p : Parser T) → ReadsItems p (F.pre next) (F.post next) →
+        Reads (spec.block set.now p tokens.old) result tokens.new }
 {
     let column = tokens.here()?.column;
     let mut found = Items::new(alloc);

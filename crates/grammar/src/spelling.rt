@@ -1,6 +1,7 @@
 //! What the spellings of literals stand for.
 ghost use Rattle.std.specs.Prelude.{◌≡◌, ◌<◌, ◌≤◌, ◌^◌, ◌+◌, ◌*◌, ◌-◌, ◌∷◌, List, ℕ, Option, Some, None, MatchOption, IfOk, false};
 ghost use Rattle.std.specs.List.{list_all};
+ghost use Rattle.elm_base.specs.Letters.{is_digit};
 ghost use Rattle.grammar.specs.Spelling as spec;
 
 use elm_base::{Name, NoMemory};
@@ -11,13 +12,13 @@ use std::str;
 const MOST_INT: u64 = 9223372036854775807;
 
 fn is_digit(byte: u8) -> bool
-    ensures { result ≡ spec.is_digit byte }
+    ensures { result ≡ is_digit byte }
 {
     48 <= byte && byte <= 57
 }
 
 fn are_digits(text: &[u8]) -> bool
-    ensures { result ≡ list_all spec.is_digit text.now }
+    ensures { result ≡ list_all is_digit text.now }
 {
     text.iter().all(|byte| is_digit(*byte))
 }

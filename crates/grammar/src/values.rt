@@ -18,7 +18,8 @@ pub fn terminated<T: Drop>(
     symbol: Terminal,
 ) -> Result<T, Halt<NoTree>>
     ensures given { IfOk result (λ given. given ≡ value) }
-    ensures reads { MatchResult result (λ _. spec.mark symbol tokens.old ≡ Some (tt, tokens.new)) (λ cause. cause ≢ halt.NoMemory → spec.mark symbol tokens.old ≡ None) }
+    ensures reads { MatchResult result (λ _. spec.mark symbol tokens.old ≡ Some (tt, tokens.new))
+        (λ cause. cause ≢ halt.NoMemory → spec.mark symbol tokens.old ≡ None) }
 {
     tokens.expect(symbol)?;
     Ok(value)

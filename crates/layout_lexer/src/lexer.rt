@@ -30,8 +30,10 @@ pub fn tokens(alloc: Global, text: &[u8]) -> Result<Vec<Token<'_>>, Halt<TextFau
     ensures refused { IfErr result (λ halt. OnBecause halt (λ fault. FirstFault text.now fault)) }
 
     // What has tokens gives them, and what has a fault gives it, or memory runs out.
-    ensures exact { (list : List Lexeme) → Tokens text.now list → MatchResult result (λ found. map lexeme found.items ≡ list) (λ halt. halt ≡ halts.NoMemory) }
-    ensures faulty { (fault : TextFault) → FirstFault text.now fault → MatchResult result (λ _. ⊥) (λ halt. (halt ≡ halts.Because fault) ⊎ (halt ≡ halts.NoMemory)) }
+    ensures exact { (list : List Lexeme) → Tokens text.now list →
+        MatchResult result (λ found. map lexeme found.items ≡ list) (λ halt. halt ≡ halts.NoMemory) }
+    ensures faulty { (fault : TextFault) → FirstFault text.now fault →
+        MatchResult result (λ _. ⊥) (λ halt. (halt ≡ halts.Because fault) ⊎ (halt ≡ halts.NoMemory)) }
 {
     scan(alloc, text)
 }
@@ -39,11 +41,15 @@ pub fn tokens(alloc: Global, text: &[u8]) -> Result<Vec<Token<'_>>, Halt<TextFau
 /// Each text has one list of tokens or one first fault, and not both. A token is the longest spelling, of
 /// whatever kind, with which the text goes on at its place.
 pub fn one_reading()
-    ensures some { (text : Text) → ((list : List Lexeme) × Tokens text list) ⊎ ((fault : TextFault) × FirstFault text fault) }
+    ensures some { (text : Text) →
+        ((list : List Lexeme) × Tokens text list) ⊎ ((fault : TextFault) × FirstFault text fault) }
     ensures one_list { (text : Text) (list other : List Lexeme) → Tokens text list → Tokens text other → list ≡ other }
-    ensures one_fault { (text : Text) (fault other : TextFault) → FirstFault text fault → FirstFault text other → fault ≡ other }
-    ensures not_both { (text : Text) (list : List Lexeme) (fault : TextFault) → Tokens text list → FirstFault text fault → ⊥ }
-    ensures longest { (joined : Bool) (text : Text) (kind : TokenKind) (s other : Text) → Stands joined text (token_part kind s) → Begins other text → IsSpelling other → length other ≤ length s }
+    ensures one_fault { (text : Text) (fault other : TextFault) →
+        FirstFault text fault → FirstFault text other → fault ≡ other }
+    ensures not_both { (text : Text) (list : List Lexeme) (fault : TextFault) →
+        Tokens text list → FirstFault text fault → ⊥ }
+    ensures longest { (joined : Bool) (text : Text) (kind : TokenKind) (s other : Text) →
+        Stands joined text (token_part kind s) → Begins other text → IsSpelling other → length other ≤ length s }
 {}
 
 fn scan(alloc: Global, text: &[u8]) -> Result<Vec<Token<'_>>, Halt<TextFault>>
@@ -105,7 +111,8 @@ fn is_value(kind: TokenKind, spelling: &[u8]) -> bool
 
 /// The fault of the first byte that isn't UTF-8, or else of the first tab.
 fn faulty_byte(text: &[u8]) -> Option<TextFault>
-    ensures { MatchOption result (IsUtf8 text.now × HasNoTab text.now) (λ f. HasBadByte text.now f ⊎ HasTab text.now f) }
+    ensures { MatchOption result (IsUtf8 text.now × HasNoTab text.now)
+        (λ f. HasBadByte text.now f ⊎ HasTab text.now f) }
 {
     if let Err(error) = str::from_utf8(text) {
         return Some(fault_after(&text[..error.valid_up_to()], FaultKind::NotUtf8));

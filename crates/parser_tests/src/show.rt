@@ -47,13 +47,14 @@ impl Printed {
     }
 }
 
+/// Writes the types, and what stands behind them.
 #[cycle(put_type)]
-fn put_types(out: &mut Printed, trees: &[TypeTree]) -> Result<(), AllocError> {
+fn put_types(out: &mut Printed, trees: &[TypeTree], back: &str) -> Result<(), AllocError> {
     for tree in trees {
         out.put(" ")?;
         put_type(out, tree)?;
     }
-    Ok(())
+    out.put(back)
 }
 
 #[cycle(put_type)]
@@ -63,6 +64,28 @@ fn put_typed(out: &mut Printed, fields: &[(Spot, TypeTree)]) -> Result<(), Alloc
         out.spot(label)?;
         out.put(":")?;
         put_type(out, tree)?;
+    }
+    out.put("}")
+}
+
+#[cycle(put_type)]
+fn put_arrow(out: &mut Printed, tree: &TypeTree) -> Result<(), AllocError> {
+    if let TypeTree::Arrow { from, to, .. } = tree {
+        out.put("<")?;
+        put_type(out, from.get())?;
+        out.put(" -> ")?;
+        put_type(out, to.get())?;
+        out.put(">")?;
+    }
+    Ok(())
+}
+
+fn put_before(out: &mut Printed, before: &Option<Spot>) -> Result<(), AllocError> {
+    out.put("{")?;
+    if let Some(variable) = before {
+        out.put(" ")?;
+        out.spot(variable)?;
+        out.put(" |")?;
     }
     Ok(())
 }
@@ -75,6 +98,10 @@ pub fn put_type(out: &mut Printed, tree: &TypeTree) -> Result<(), AllocError> {
             out.name(name.bytes())?;
             at
         }
+        TypeTree::Unit { at } => {
+            out.put("()")?;
+            at
+        }
         TypeTree::Named {
             at,
             name,
@@ -82,26 +109,12 @@ pub fn put_type(out: &mut Printed, tree: &TypeTree) -> Result<(), AllocError> {
         } => {
             out.put("<")?;
             out.name(name.bytes())?;
-            put_types(out, arguments.as_slice())?;
-            out.put(">")?;
-            at
-        }
-        TypeTree::Arrow { at, from, to } => {
-            out.put("<")?;
-            put_type(out, from.get())?;
-            out.put(" -> ")?;
-            put_type(out, to.get())?;
-            out.put(">")?;
-            at
-        }
-        TypeTree::Unit { at } => {
-            out.put("()")?;
+            put_types(out, arguments.as_slice(), ">")?;
             at
         }
         TypeTree::Tuple { at, parts } => {
             out.put("(,")?;
-            put_types(out, parts.as_slice())?;
-            out.put(")")?;
+            put_types(out, parts.as_slice(), ")")?;
             at
         }
         TypeTree::Brackets { at, inner } => {
@@ -110,15 +123,13 @@ pub fn put_type(out: &mut Printed, tree: &TypeTree) -> Result<(), AllocError> {
             out.put(")")?;
             at
         }
+        TypeTree::Arrow { at, .. } => {
+            put_arrow(out, tree)?;
+            at
+        }
         TypeTree::Fields { at, before, fields } => {
-            out.put("{")?;
-            if let Some(variable) = before {
-                out.put(" ")?;
-                out.spot(variable)?;
-                out.put(" |")?;
-            }
+            put_before(out, before)?;
             put_typed(out, fields.as_slice())?;
-            out.put("}")?;
             at
         }
     };
@@ -190,6 +201,18 @@ fn put_listed(
     out.put(back)
 }
 
+#[cycle(put_pattern)]
+fn put_cons(out: &mut Printed, tree: &Pattern) -> Result<(), AllocError> {
+    if let Pattern::Cons { head, tail, .. } = tree {
+        out.put("<")?;
+        put_pattern(out, head.get())?;
+        out.put(" :: ")?;
+        put_pattern(out, tail.get())?;
+        out.put(">")?;
+    }
+    Ok(())
+}
+
 /// Writes the pattern, and its place behind it.
 #[cycle(put_pattern)]
 pub fn put_pattern(out: &mut Printed, tree: &Pattern) -> Result<(), AllocError> {
@@ -207,12 +230,8 @@ pub fn put_pattern(out: &mut Printed, tree: &Pattern) -> Result<(), AllocError> 
             put_listed(out, "", parts.as_slice(), ">")?;
             out.place(*at)
         }
-        Pattern::Cons { at, head, tail } => {
-            out.put("<")?;
-            put_pattern(out, head.get())?;
-            out.put(" :: ")?;
-            put_pattern(out, tail.get())?;
-            out.put(">")?;
+        Pattern::Cons { at, .. } => {
+            put_cons(out, tree)?;
             out.place(*at)
         }
         Pattern::List { at, parts } => {

@@ -444,10 +444,11 @@ pub fn pattern(alloc: Global, tokens: &[Token<'_>]) -> Result<Pattern, Halt<NoTr
     ensures derives { IfOk result (λ tree. DerivesPattern (map lexeme tokens.now) tree) }
     ensures nests { IfOk result (λ tree. pattern_nesting tree ≤ max_nesting) }
     // A pattern that derives and nests so is given, unless memory runs out.
-    ensures found { (tree : Pattern) → DerivesPattern (map lexeme tokens.now) tree → pattern_nesting tree ≤ max_nesting →
+    ensures found { (tree : Pattern) → DerivesPattern (map lexeme tokens.now) tree →
+        pattern_nesting tree ≤ max_nesting →
         MatchResult result (λ found. found ≡ tree) (λ cause. cause ≡ halt.NoMemory) }
-    ensures refused { IfErr result (λ cause. cause ≢ halt.NoMemory → (tree : Pattern) → DerivesPattern (map lexeme tokens.now) tree →
-        pattern_nesting tree ≤ max_nesting → ⊥) }
+    ensures refused { IfErr result (λ cause. cause ≢ halt.NoMemory → (tree : Pattern) →
+        DerivesPattern (map lexeme tokens.now) tree → pattern_nesting tree ≤ max_nesting → ⊥) }
 {
     let mut cursor = Cursor::new(tokens);
     let found = pattern_at(alloc, DEPTH, &mut cursor)?;

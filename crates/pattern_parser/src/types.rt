@@ -187,7 +187,8 @@ impl<F: Fn(Global, usize, &mut Cursor<'_>) -> Result<TypeTree, Halt<NoTree>>> Ty
         tokens: &mut Cursor<'_>,
     ) -> Result<Items<FieldOfType>, Halt<NoTree>>
         requires { ReadsTypes self.now.depth (F.pre self.now.whole) (F.post self.now.whole) }
-        ensures { Reads (with_front (first ∷ []) (spec.more_fields (spec.type_at self.now.depth) tokens.old)) result tokens.new }
+        ensures { Reads (with_front (first ∷ []) (spec.more_fields (spec.type_at self.now.depth) tokens.old))
+            result tokens.new }
     {
         let mut found = Items::new(self.alloc);
         found.push(first)?;
@@ -212,7 +213,8 @@ impl<F: Fn(Global, usize, &mut Cursor<'_>) -> Result<TypeTree, Halt<NoTree>>> Ty
         tokens: &mut Cursor<'_>,
     ) -> Result<Inside, Halt<NoTree>>
         requires { ReadsTypes self.now.depth (F.pre self.now.whole) (F.post self.now.whole) }
-        ensures { Reads (named_by variable (spec.behind_variable (spec.type_at self.now.depth) tokens.old)) result tokens.new }
+        ensures { Reads (named_by variable (spec.behind_variable (spec.type_at self.now.depth) tokens.old))
+            result tokens.new }
     {
         tokens.expect(Terminal::Bar)?;
         paired(Some(variable), self.fields(tokens))
@@ -222,7 +224,8 @@ impl<F: Fn(Global, usize, &mut Cursor<'_>) -> Result<TypeTree, Halt<NoTree>>> Ty
     #[tactic(auto, unfolding(crate::specs::TypeReader::behind_label))]
     fn behind_label(&self, label: Spot, tokens: &mut Cursor<'_>) -> Result<Inside, Halt<NoTree>>
         requires { ReadsTypes self.now.depth (F.pre self.now.whole) (F.post self.now.whole) }
-        ensures { Reads (named_by label (spec.behind_label (spec.type_at self.now.depth) tokens.old)) result tokens.new }
+        ensures { Reads (named_by label (spec.behind_label (spec.type_at self.now.depth) tokens.old))
+            result tokens.new }
     {
         tokens.expect(Terminal::Colon)?;
         let first = paired(label, self.whole(tokens))?;
@@ -366,8 +369,8 @@ pub fn type_text(alloc: Global, tokens: &[Token<'_>]) -> Result<TypeTree, Halt<N
     // A type that derives and nests so is given, unless memory runs out.
     ensures found { (tree : TypeTree) → DerivesType (map lexeme tokens.now) tree → type_nesting tree ≤ max_nesting →
         MatchResult result (λ found. found ≡ tree) (λ cause. cause ≡ halt.NoMemory) }
-    ensures refused { IfErr result (λ cause. cause ≢ halt.NoMemory → (tree : TypeTree) → DerivesType (map lexeme tokens.now) tree →
-        type_nesting tree ≤ max_nesting → ⊥) }
+    ensures refused { IfErr result (λ cause. cause ≢ halt.NoMemory → (tree : TypeTree) →
+        DerivesType (map lexeme tokens.now) tree → type_nesting tree ≤ max_nesting → ⊥) }
 {
     let mut cursor = Cursor::new(tokens);
     let found = type_at(alloc, DEPTH, &mut cursor)?;

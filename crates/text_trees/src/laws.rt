@@ -25,5 +25,6 @@ pub fn worked_texts()
     ensures access { SpellsExpr (codes "f.x")
         (e.Access (first_line 1) (e.Variable (first_line 1) (codes "f")) (codes "x")) }
     ensures argument { SpellsExpr (codes "f .x")
-        (e.Call (first_line 1) (e.Variable (first_line 1) (codes "f")) (e.FieldFunction (first_line 3) (codes "x") ∷ [])) }
+        (e.Call (first_line 1) (e.Variable (first_line 1) (codes "f"))
+        (e.FieldFunction (first_line 3) (codes "x") ∷ [])) }
 {}
