@@ -100,6 +100,12 @@ module _ (inner : Below) where
   abbrev pub parameter : Parser Pattern
   parameter = patterns.part (cons_at inner.depth)
 
+  abbrev pub parameters : Parser (List Pattern)
+  parameters = many patterns_begin parameter
+
+  abbrev pub some_parameters : Parser (List Pattern)
+  some_parameters = some patterns_begin parameter
+
   unfoldable pub compound : Parser Pattern
   compound = choose (k.LeftParen ∷ []) (only (λ x. not (is_brackets x)) (patterns.brackets (cons_at inner.depth))) patterns.labels
 
@@ -110,8 +116,11 @@ module _ (inner : Below) where
   abbrev pub more : Parser (List Expr)
   more = many (k.Comma ∷ []) (behind k.Comma)
 
+  abbrev pub wholes : Parser (List Expr)
+  wholes = separated inner.whole
+
   unfoldable pub any_parts : Parser (List Expr)
-  any_parts = only at_most_nine (choose expressions_begin (separated inner.whole) (nothing []))
+  any_parts = only at_most_nine (choose expressions_begin wholes (nothing []))
 
   unfoldable pub parts : Parser (At → Expr)
   parts = (λ xs at. enclosed (at, xs)) <$> any_parts ◁ mark k.RightParen
@@ -185,8 +194,11 @@ module _ (inner : Below) where
   unfoldable pub atom : Parser Expr
   atom = accessed <$> at (primary ⊗ accesses)
 
+  abbrev pub arguments : Parser (List Expr)
+  arguments = many atoms_begin atom
+
   unfoldable pub application : Parser Expr
-  application = applied <$> at (atom ⊗ many atoms_begin atom)
+  application = applied <$> at (atom ⊗ arguments)
 
   unfoldable pub negation : Parser Expr
   negation = (λ x. e.Negate x.0 x.1) <$> at (mark k.Minus ▷ application)
@@ -195,7 +207,7 @@ module _ (inner : Below) where
   operand = choose (k.Minus ∷ []) negation application
 
   unfoldable pub lambda : Parser Expr
-  lambda = (λ x. e.Lambda x.0 x.1.0 x.1.1) <$> at (mark k.Backslash ▷ some patterns_begin parameter ⊗ mark k.Arrow ▷ inner.whole)
+  lambda = (λ x. e.Lambda x.0 x.1.0 x.1.1) <$> at (mark k.Backslash ▷ some_parameters ⊗ mark k.Arrow ▷ inner.whole)
 
   unfoldable pub two_way : Parser (At → Expr)
   two_way = (λ x at. e.If at x.0 x.1.0 x.1.1) <$> inner.whole ⊗ (mark k.Then ▷ inner.whole) ⊗ mark k.Else ▷ inner.whole
@@ -209,8 +221,11 @@ module _ (inner : Below) where
   unfoldable pub guard : Parser (Expr × Expr)
   guard = behind k.Bar ⊗ chosen
 
+  abbrev pub guards : Parser (List (Expr × Expr))
+  guards = some (k.Bar ∷ []) guard
+
   unfoldable pub multi_way : Parser (At → Expr)
-  multi_way = (λ branches at. e.Guards at branches) <$> some (k.Bar ∷ []) guard
+  multi_way = (λ branches at. e.Guards at branches) <$> guards
 
   unfoldable pub conditional : Parser Expr
   conditional = (λ x. x.1 x.0) <$> at (mark k.If ▷ choose expressions_begin two_way multi_way)
@@ -219,7 +234,7 @@ module _ (inner : Below) where
   annotated = (λ written at name. d.Annotation at name written) <$> mark k.Colon ▷ type_at inner.depth
 
   unfoldable pub defined : Parser (At → List ℕ → Declaration)
-  defined = (λ x at name. d.Definition at name x.0 x.1) <$> many patterns_begin parameter ⊗ mark k.Equals ▷ inner.whole
+  defined = (λ x at name. d.Definition at name x.0 x.1) <$> parameters ⊗ mark k.Equals ▷ inner.whole
 
   unfoldable pub named_definition : Parser Declaration
   named_definition = (λ x. x.1.1 x.0 x.1.0) <$> at (name k.Lower ⊗ choose (k.Colon ∷ []) annotated defined)
@@ -230,8 +245,11 @@ module _ (inner : Below) where
   unfoldable pub definition : Parser Declaration
   definition = choose (k.Lower ∷ []) named_definition pattern_definition
 
+  abbrev pub definition_block : Parser (List Declaration)
+  definition_block = block definitions_begin definition
+
   unfoldable pub definitions : Parser (List Declaration)
-  definitions = only annotations_stand (block definitions_begin definition)
+  definitions = only annotations_stand definition_block
 
   unfoldable pub let_in : Parser Expr
   let_in = (λ x. e.Let x.0 x.1.0 x.1.1) <$> at (mark k.Let ▷ definitions ⊗ mark k.In ▷ inner.whole)
@@ -239,8 +257,11 @@ module _ (inner : Below) where
   unfoldable pub branch : Parser (Pattern × Expr)
   branch = pattern_ ⊗ mark k.Arrow ▷ inner.whole
 
+  abbrev pub branches : Parser (List (Pattern × Expr))
+  branches = block patterns_begin branch
+
   unfoldable pub case_of : Parser Expr
-  case_of = (λ x. e.Case x.0 x.1.0 x.1.1) <$> at (mark k.Case ▷ inner.whole ⊗ mark k.Of ▷ block patterns_begin branch)
+  case_of = (λ x. e.Case x.0 x.1.0 x.1.1) <$> at (mark k.Case ▷ inner.whole ⊗ mark k.Of ▷ branches)
 
   unfoldable pub last_form : Parser Expr
   last_form = choose (k.Backslash ∷ []) lambda (choose (k.If ∷ []) conditional (choose (k.Let ∷ []) let_in case_of))

@@ -17,7 +17,8 @@ use std::alloc::{AllocError, Global};
 
 /// The labels of the accesses that stand next.
 fn labels(alloc: Global, tokens: &mut Cursor<'_>) -> Result<Items<Name>, Halt<NoTree>>
-    ensures { Reads (many (k.Access ∷ []) (spelled k.Access label_of) tokens.old) result tokens.new }
+    ensures { Reads (many (k.Access ∷ []) (spelled k.Access label_of) tokens.old)
+        result tokens.new }
 {
     let next = |tokens: &mut Cursor<'_>| tokens.label(alloc, Terminal::Access);
     many(alloc, &[Terminal::Access], next, tokens)
@@ -120,15 +121,21 @@ impl<F: Fn(Global, bool, usize, &mut Cursor<'_>) -> Result<Expr, Halt<NoTree>>> 
 
     fn arguments(&self, tokens: &mut Cursor<'_>) -> Result<Items<Expr>, Halt<NoTree>>
         requires { ReadsExprs self.now.depth (F.pre self.now.below) (F.post self.now.below) }
-        ensures { Reads (many spec.atoms_begin (spec.atom (spec.below self.now.depth)) tokens.old) result tokens.new }
+        ensures { Reads (spec.arguments (spec.below self.now.depth) tokens.old) result tokens.new }
     {
-        many(self.alloc, &ATOMS, |tokens: &mut Cursor<'_>| self.atom(tokens), tokens)
+        many(
+            self.alloc,
+            &ATOMS,
+            |tokens: &mut Cursor<'_>| self.atom(tokens),
+            tokens,
+        )
     }
 
     #[tactic(auto, unfolding(expr_grammar::specs::ExprReader::application))]
     fn application(&self, tokens: &mut Cursor<'_>) -> Result<Expr, Halt<NoTree>>
         requires { ReadsExprs self.now.depth (F.pre self.now.below) (F.post self.now.below) }
-        ensures { Reads (spec.application (spec.below self.now.depth) tokens.old) result tokens.new }
+        ensures { Reads (spec.application (spec.below self.now.depth) tokens.old)
+            result tokens.new }
     {
         let at = tokens.here()?;
         let (function, arguments) = paired(self.atom(tokens)?, self.arguments(tokens))?;

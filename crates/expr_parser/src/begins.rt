@@ -1,8 +1,10 @@
 //! What the parts of expressions begin with.
 use grammar::Terminal;
 
+/// An operator that is no name in backticks.
 pub const SIGNS: [Terminal; 3] = [Terminal::Operator, Terminal::Minus, Terminal::Cons];
 
+/// What an operator between operands begins with.
 pub const OPERATORS: [Terminal; 4] = [
     Terminal::Operator,
     Terminal::Minus,
@@ -10,6 +12,7 @@ pub const OPERATORS: [Terminal; 4] = [
     Terminal::Backtick,
 ];
 
+/// What an atom begins with.
 pub const ATOMS: [Terminal; 10] = [
     Terminal::Int,
     Terminal::Char,
@@ -31,6 +34,7 @@ pub const LAST_FORMS: [Terminal; 4] = [
     Terminal::Case,
 ];
 
+/// What an expression begins with.
 pub const EXPRESSIONS: [Terminal; 15] = [
     Terminal::Backslash,
     Terminal::If,
@@ -50,12 +54,9 @@ pub const EXPRESSIONS: [Terminal; 15] = [
 ];
 
 /// What begins the left side of a definition.
-pub const DEFINITIONS: [Terminal; 3] = [
-    Terminal::Lower,
-    Terminal::LeftParen,
-    Terminal::LeftBrace,
-];
+pub const DEFINITIONS: [Terminal; 3] = [Terminal::Lower, Terminal::LeftParen, Terminal::LeftBrace];
 
+/// What a pattern begins with.
 pub const PATTERNS: [Terminal; 9] = [
     Terminal::Upper,
     Terminal::Underscore,

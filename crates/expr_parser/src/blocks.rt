@@ -1,6 +1,5 @@
 //! Definitions of a `let` and branches of a `case`, each in one column.
-ghost use Rattle.grammar.specs.Reader.{Reads, block};
-ghost use Rattle.pattern_parser.specs.PatternReader.{patterns_begin};
+ghost use Rattle.grammar.specs.Reader.{Reads};
 ghost use Rattle.expr_grammar.specs.ExprReader as spec;
 ghost use Rattle.expr_parser.specs.ExprCalls.{ReadsExprs};
 ghost use Rattle.expr_parser.specs.Places.{placed_round};
@@ -31,9 +30,15 @@ impl<F: Fn(Global, bool, usize, &mut Cursor<'_>) -> Result<Expr, Halt<NoTree>>> 
 
     /// Behind a name: the type that it is to have.
     #[tactic(auto, unfolding(expr_grammar::specs::ExprReader::annotated))]
-    fn annotated(&self, at: At, name: Name, tokens: &mut Cursor<'_>) -> Result<Declaration, Halt<NoTree>>
+    fn annotated(
+        &self,
+        at: At,
+        name: Name,
+        tokens: &mut Cursor<'_>,
+    ) -> Result<Declaration, Halt<NoTree>>
         requires { ReadsExprs self.now.depth (F.pre self.now.below) (F.post self.now.below) }
-        ensures { Reads (placed_round at name (spec.annotated (spec.below self.now.depth)) tokens.old) result tokens.new }
+        ensures { Reads (placed_round at name
+            (spec.annotated (spec.below self.now.depth)) tokens.old) result tokens.new }
     {
         tokens.expect(Terminal::Colon)?;
         let written = type_at(self.alloc, self.depth, tokens)?;
@@ -42,9 +47,15 @@ impl<F: Fn(Global, bool, usize, &mut Cursor<'_>) -> Result<Expr, Halt<NoTree>>> 
 
     /// Behind a name: the parameters and the body of its definition.
     #[tactic(auto, unfolding(expr_grammar::specs::ExprReader::defined))]
-    fn defined(&self, at: At, name: Name, tokens: &mut Cursor<'_>) -> Result<Declaration, Halt<NoTree>>
+    fn defined(
+        &self,
+        at: At,
+        name: Name,
+        tokens: &mut Cursor<'_>,
+    ) -> Result<Declaration, Halt<NoTree>>
         requires { ReadsExprs self.now.depth (F.pre self.now.below) (F.post self.now.below) }
-        ensures { Reads (placed_round at name (spec.defined (spec.below self.now.depth)) tokens.old) result tokens.new }
+        ensures { Reads (placed_round at name (spec.defined (spec.below self.now.depth)) tokens.old)
+            result tokens.new }
     {
         let patterns = self.parameters(tokens)?;
         let body = self.behind(Terminal::Equals, tokens)?;
@@ -59,7 +70,8 @@ impl<F: Fn(Global, bool, usize, &mut Cursor<'_>) -> Result<Expr, Halt<NoTree>>> 
     #[tactic(auto, unfolding(expr_grammar::specs::ExprReader::named_definition))]
     fn named_definition(&self, tokens: &mut Cursor<'_>) -> Result<Declaration, Halt<NoTree>>
         requires { ReadsExprs self.now.depth (F.pre self.now.below) (F.post self.now.below) }
-        ensures { Reads (spec.named_definition (spec.below self.now.depth) tokens.old) result tokens.new }
+        ensures { Reads (spec.named_definition (spec.below self.now.depth) tokens.old)
+            result tokens.new }
     {
         let at = tokens.here()?;
         let name = tokens.name(self.alloc, Terminal::Lower)?;
@@ -73,10 +85,14 @@ impl<F: Fn(Global, bool, usize, &mut Cursor<'_>) -> Result<Expr, Halt<NoTree>>> 
     #[tactic(auto, unfolding(expr_grammar::specs::ExprReader::pattern_definition))]
     fn pattern_definition(&self, tokens: &mut Cursor<'_>) -> Result<Declaration, Halt<NoTree>>
         requires { ReadsExprs self.now.depth (F.pre self.now.below) (F.post self.now.below) }
-        ensures { Reads (spec.pattern_definition (spec.below self.now.depth) tokens.old) result tokens.new }
+        ensures { Reads (spec.pattern_definition (spec.below self.now.depth) tokens.old)
+            result tokens.new }
     {
         let at = tokens.here()?;
-        let (pattern, body) = paired(self.compound(tokens)?, self.behind(Terminal::Equals, tokens))?;
+        let (pattern, body) = paired(
+            self.compound(tokens)?,
+            self.behind(Terminal::Equals, tokens),
+        )?;
         Ok(Declaration::PatternDefinition { at, pattern, body })
     }
 
@@ -95,15 +111,22 @@ impl<F: Fn(Global, bool, usize, &mut Cursor<'_>) -> Result<Expr, Halt<NoTree>>> 
     /// One or more definitions, each begun in the column of the first.
     fn definition_block(&self, tokens: &mut Cursor<'_>) -> Result<Items<Declaration>, Halt<NoTree>>
         requires { ReadsExprs self.now.depth (F.pre self.now.below) (F.post self.now.below) }
-        ensures { Reads (block spec.definitions_begin (spec.definition (spec.below self.now.depth)) tokens.old) result tokens.new }
+        ensures { Reads (spec.definition_block (spec.below self.now.depth) tokens.old)
+            result tokens.new }
     {
-        block(self.alloc, &DEFINITIONS, |tokens: &mut Cursor<'_>| self.definition(tokens), tokens)
+        block(
+            self.alloc,
+            &DEFINITIONS,
+            |tokens: &mut Cursor<'_>| self.definition(tokens),
+            tokens,
+        )
     }
 
     #[tactic(auto, unfolding(expr_grammar::specs::ExprReader::definitions))]
     fn definitions(&self, tokens: &mut Cursor<'_>) -> Result<Items<Declaration>, Halt<NoTree>>
         requires { ReadsExprs self.now.depth (F.pre self.now.below) (F.post self.now.below) }
-        ensures { Reads (spec.definitions (spec.below self.now.depth) tokens.old) result tokens.new }
+        ensures { Reads (spec.definitions (spec.below self.now.depth) tokens.old)
+            result tokens.new }
     {
         let found = self.definition_block(tokens)?;
         if annotations_stand(found.as_slice()) {
@@ -134,15 +157,23 @@ impl<F: Fn(Global, bool, usize, &mut Cursor<'_>) -> Result<Expr, Halt<NoTree>>> 
         requires { ReadsExprs self.now.depth (F.pre self.now.below) (F.post self.now.below) }
         ensures { Reads (spec.branch (spec.below self.now.depth) tokens.old) result tokens.new }
     {
-        paired(pattern_at(self.alloc, self.depth, tokens)?, self.behind(Terminal::Arrow, tokens))
+        paired(
+            pattern_at(self.alloc, self.depth, tokens)?,
+            self.behind(Terminal::Arrow, tokens),
+        )
     }
 
     /// One or more branches, each begun in the column of the first.
     fn branches(&self, tokens: &mut Cursor<'_>) -> Result<Items<(Pattern, Expr)>, Halt<NoTree>>
         requires { ReadsExprs self.now.depth (F.pre self.now.below) (F.post self.now.below) }
-        ensures { Reads (block patterns_begin (spec.branch (spec.below self.now.depth)) tokens.old) result tokens.new }
+        ensures { Reads (spec.branches (spec.below self.now.depth) tokens.old) result tokens.new }
     {
-        block(self.alloc, &PATTERNS, |tokens: &mut Cursor<'_>| self.branch(tokens), tokens)
+        block(
+            self.alloc,
+            &PATTERNS,
+            |tokens: &mut Cursor<'_>| self.branch(tokens),
+            tokens,
+        )
     }
 
     #[tactic(auto, unfolding(expr_grammar::specs::ExprReader::case_of))]

@@ -79,7 +79,7 @@ impl<F: Fn(Global, bool, usize, &mut Cursor<'_>) -> Result<Expr, Halt<NoTree>>> 
     /// One or more expressions with commas between.
     fn wholes(&self, tokens: &mut Cursor<'_>) -> Result<Items<Expr>, Halt<NoTree>>
         requires { ReadsExprs self.now.depth (F.pre self.now.below) (F.post self.now.below) }
-        ensures { Reads (lists.separated (spec.tree_at false self.now.depth) tokens.old) result tokens.new }
+        ensures { Reads (spec.wholes (spec.below self.now.depth) tokens.old) result tokens.new }
     {
         let next = |tokens: &mut Cursor<'_>| self.whole(tokens);
         separated(self.alloc, next, tokens)
@@ -105,7 +105,8 @@ impl<F: Fn(Global, bool, usize, &mut Cursor<'_>) -> Result<Expr, Halt<NoTree>>> 
     #[tactic(auto, unfolding(expr_grammar::specs::ExprReader::parts))]
     fn parts(&self, at: At, tokens: &mut Cursor<'_>) -> Result<Expr, Halt<NoTree>>
         requires { ReadsExprs self.now.depth (F.pre self.now.below) (F.post self.now.below) }
-        ensures { Reads (placed at (spec.parts (spec.below self.now.depth)) tokens.old) result tokens.new }
+        ensures { Reads (placed at (spec.parts (spec.below self.now.depth)) tokens.old)
+            result tokens.new }
     {
         let parts = self.any_parts(tokens)?;
         tokens.expect(Terminal::RightParen)?;
@@ -115,7 +116,8 @@ impl<F: Fn(Global, bool, usize, &mut Cursor<'_>) -> Result<Expr, Halt<NoTree>>> 
     #[tactic(auto, unfolding(expr_grammar::specs::ExprReader::inside_brackets))]
     fn inside_brackets(&self, at: At, tokens: &mut Cursor<'_>) -> Result<Expr, Halt<NoTree>>
         requires { ReadsExprs self.now.depth (F.pre self.now.below) (F.post self.now.below) }
-        ensures { Reads (placed at (spec.inside_brackets (spec.below self.now.depth)) tokens.old) result tokens.new }
+        ensures { Reads (placed at (spec.inside_brackets (spec.below self.now.depth)) tokens.old)
+            result tokens.new }
     {
         if tokens.sees_any(&SIGNS) && tokens.sees_second(Terminal::RightParen) {
             operator_name(self.alloc, at, tokens)

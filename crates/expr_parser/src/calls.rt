@@ -24,10 +24,11 @@ pub fn expr(alloc: Global, tokens: &[Token<'_>]) -> Result<Expr, Halt<NoTree>>
     ensures derives { IfOk result (λ tree. DerivesExpr (map lexeme tokens.now) tree) }
     ensures nests { IfOk result (λ tree. expr_nesting tree ≤ max_nesting) }
     // An expression that derives and nests so is given, unless memory runs out.
-    ensures found { (tree : Expr) → DerivesExpr (map lexeme tokens.now) tree → expr_nesting tree ≤ max_nesting →
-        MatchResult result (λ found. found ≡ tree) (λ cause. cause ≡ halt.NoMemory) }
-    ensures refused { IfErr result (λ cause. cause ≢ halt.NoMemory → (tree : Expr) → DerivesExpr (map lexeme tokens.now) tree →
-        expr_nesting tree ≤ max_nesting → ⊥) }
+    ensures found { (tree : Expr) → DerivesExpr (map lexeme tokens.now) tree
+        → expr_nesting tree ≤ max_nesting
+        → MatchResult result (λ found. found ≡ tree) (λ cause. cause ≡ halt.NoMemory) }
+    ensures refused { IfErr result (λ cause. cause ≢ halt.NoMemory → (tree : Expr)
+        → DerivesExpr (map lexeme tokens.now) tree → expr_nesting tree ≤ max_nesting → ⊥) }
 {
     let mut cursor = Cursor::new(tokens);
     let found = tree_at(alloc, false, DEPTH, &mut cursor)?;

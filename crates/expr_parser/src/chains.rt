@@ -32,7 +32,8 @@ fn chained(
     operators: Items<Operator>,
     operands: Items<Expr>,
 ) -> Result<Expr, AllocError>
-    ensures { (links : List (Operator × Expr)) → apart links ≡ (operators, operands) → IfOk result (λ tree. tree ≡ grammar.chained (at, (first, links))) }
+    ensures { (links : List (Operator × Expr)) → apart links ≡ (operators, operands)
+        → IfOk result (λ tree. tree ≡ grammar.chained (at, (first, links))) }
 {
     if operators.is_empty() {
         return Ok(first);
@@ -92,7 +93,8 @@ impl<F: Fn(Global, bool, usize, &mut Cursor<'_>) -> Result<Expr, Halt<NoTree>>> 
     /// What stands behind an operator: a form that takes all that stands behind it, or an operand.
     fn linked(&self, tokens: &mut Cursor<'_>) -> Result<Expr, Halt<NoTree>>
         requires { ReadsExprs self.now.depth (F.pre self.now.below) (F.post self.now.below) }
-        ensures { Reads (spec.linked_operand (spec.below self.now.depth) tokens.old) result tokens.new }
+        ensures { Reads (spec.linked_operand (spec.below self.now.depth) tokens.old)
+            result tokens.new }
     {
         if tokens.sees_any(&LAST_FORMS) {
             self.last_form(tokens)
@@ -104,7 +106,8 @@ impl<F: Fn(Global, bool, usize, &mut Cursor<'_>) -> Result<Expr, Halt<NoTree>>> 
     /// The operators and operands behind the first operand. A form that takes all that stands behind it is the last of them.
     fn links(&self, tokens: &mut Cursor<'_>) -> Result<(Items<Operator>, Items<Expr>), Halt<NoTree>>
         requires { ReadsExprs self.now.depth (F.pre self.now.below) (F.post self.now.below) }
-        ensures { Reads (separately (spec.links (spec.below self.now.depth)) tokens.old) result tokens.new }
+        ensures { Reads (separately (spec.links (spec.below self.now.depth)) tokens.old)
+            result tokens.new }
     {
         let mut operators = Items::new(self.alloc);
         let mut operands = Items::new(self.alloc);

@@ -46,7 +46,8 @@ impl<F: Fn(Global, bool, usize, &mut Cursor<'_>) -> Result<Expr, Halt<NoTree>>> 
     /// An expression of the level below, behind this token.
     pub fn behind(&self, symbol: Terminal, tokens: &mut Cursor<'_>) -> Result<Expr, Halt<NoTree>>
         requires { ReadsExprs self.now.depth (F.pre self.now.below) (F.post self.now.below) }
-        ensures { Reads (spec.behind (spec.below self.now.depth) symbol tokens.old) result tokens.new }
+        ensures { Reads (spec.behind (spec.below self.now.depth) symbol tokens.old)
+            result tokens.new }
     {
         tokens.expect(symbol)?;
         self.whole(tokens)
@@ -59,7 +60,8 @@ impl<F: Fn(Global, bool, usize, &mut Cursor<'_>) -> Result<Expr, Halt<NoTree>>> 
         tokens: &mut Cursor<'_>,
     ) -> Result<Boxed<Expr>, Halt<NoTree>>
         requires { ReadsExprs self.now.depth (F.pre self.now.below) (F.post self.now.below) }
-        ensures { Reads (spec.behind (spec.below self.now.depth) symbol tokens.old) result tokens.new }
+        ensures { Reads (spec.behind (spec.below self.now.depth) symbol tokens.old)
+            result tokens.new }
     {
         tokens.expect(symbol)?;
         self.boxed(tokens)

@@ -1,9 +1,5 @@
 //! Lambdas and conditional expressions.
-ghost use Rattle.std.specs.Prelude.{[], ◌∷◌};
-ghost use Rattle.grammar.specs.declared.terminal.Terminal.TheVariants as k;
-ghost use Rattle.grammar.specs.Reader.{Reads, many};
-ghost use Rattle.grammar.specs.Lists.{some};
-ghost use Rattle.pattern_parser.specs.PatternReader.{patterns_begin};
+ghost use Rattle.grammar.specs.Reader.{Reads};
 ghost use Rattle.expr_grammar.specs.ExprReader as spec;
 ghost use Rattle.expr_parser.specs.ExprCalls.{ReadsExprs};
 ghost use Rattle.expr_parser.specs.Places.{placed};
@@ -28,17 +24,28 @@ impl<F: Fn(Global, bool, usize, &mut Cursor<'_>) -> Result<Expr, Halt<NoTree>>> 
 
     pub fn parameters(&self, tokens: &mut Cursor<'_>) -> Result<Items<Pattern>, Halt<NoTree>>
         requires { ReadsExprs self.now.depth (F.pre self.now.below) (F.post self.now.below) }
-        ensures { Reads (many patterns_begin (spec.parameter (spec.below self.now.depth)) tokens.old) result tokens.new }
+        ensures { Reads (spec.parameters (spec.below self.now.depth) tokens.old) result tokens.new }
     {
-        many(self.alloc, &PATTERNS, |tokens: &mut Cursor<'_>| self.parameter(tokens), tokens)
+        many(
+            self.alloc,
+            &PATTERNS,
+            |tokens: &mut Cursor<'_>| self.parameter(tokens),
+            tokens,
+        )
     }
 
     /// One or more parameters.
     fn some_parameters(&self, tokens: &mut Cursor<'_>) -> Result<Items<Pattern>, Halt<NoTree>>
         requires { ReadsExprs self.now.depth (F.pre self.now.below) (F.post self.now.below) }
-        ensures { Reads (some patterns_begin (spec.parameter (spec.below self.now.depth)) tokens.old) result tokens.new }
+        ensures { Reads (spec.some_parameters (spec.below self.now.depth) tokens.old)
+            result tokens.new }
     {
-        some(self.alloc, &PATTERNS, |tokens: &mut Cursor<'_>| self.parameter(tokens), tokens)
+        some(
+            self.alloc,
+            &PATTERNS,
+            |tokens: &mut Cursor<'_>| self.parameter(tokens),
+            tokens,
+        )
     }
 
     #[tactic(auto, unfolding(expr_grammar::specs::ExprReader::lambda))]
@@ -57,7 +64,8 @@ impl<F: Fn(Global, bool, usize, &mut Cursor<'_>) -> Result<Expr, Halt<NoTree>>> 
     #[tactic(auto, unfolding(expr_grammar::specs::ExprReader::two_way))]
     fn two_way(&self, at: At, tokens: &mut Cursor<'_>) -> Result<Expr, Halt<NoTree>>
         requires { ReadsExprs self.now.depth (F.pre self.now.below) (F.post self.now.below) }
-        ensures { Reads (placed at (spec.two_way (spec.below self.now.depth)) tokens.old) result tokens.new }
+        ensures { Reads (placed at (spec.two_way (spec.below self.now.depth)) tokens.old)
+            result tokens.new }
     {
         let condition = self.boxed(tokens)?;
         let yes = self.boxed_behind(Terminal::Then, tokens)?;
@@ -99,15 +107,21 @@ impl<F: Fn(Global, bool, usize, &mut Cursor<'_>) -> Result<Expr, Halt<NoTree>>> 
 
     fn guards(&self, tokens: &mut Cursor<'_>) -> Result<Items<(Expr, Expr)>, Halt<NoTree>>
         requires { ReadsExprs self.now.depth (F.pre self.now.below) (F.post self.now.below) }
-        ensures { Reads (some (k.Bar ∷ []) (spec.guard (spec.below self.now.depth)) tokens.old) result tokens.new }
+        ensures { Reads (spec.guards (spec.below self.now.depth) tokens.old) result tokens.new }
     {
-        some(self.alloc, &[Terminal::Bar], |tokens: &mut Cursor<'_>| self.guard(tokens), tokens)
+        some(
+            self.alloc,
+            &[Terminal::Bar],
+            |tokens: &mut Cursor<'_>| self.guard(tokens),
+            tokens,
+        )
     }
 
     #[tactic(auto, unfolding(expr_grammar::specs::ExprReader::multi_way))]
     fn multi_way(&self, at: At, tokens: &mut Cursor<'_>) -> Result<Expr, Halt<NoTree>>
         requires { ReadsExprs self.now.depth (F.pre self.now.below) (F.post self.now.below) }
-        ensures { Reads (placed at (spec.multi_way (spec.below self.now.depth)) tokens.old) result tokens.new }
+        ensures { Reads (placed at (spec.multi_way (spec.below self.now.depth)) tokens.old)
+            result tokens.new }
     {
         let branches = self.guards(tokens)?;
         Ok(Expr::Guards { at, branches })
@@ -116,7 +130,8 @@ impl<F: Fn(Global, bool, usize, &mut Cursor<'_>) -> Result<Expr, Halt<NoTree>>> 
     #[tactic(auto, unfolding(expr_grammar::specs::ExprReader::conditional))]
     pub fn conditional(&self, tokens: &mut Cursor<'_>) -> Result<Expr, Halt<NoTree>>
         requires { ReadsExprs self.now.depth (F.pre self.now.below) (F.post self.now.below) }
-        ensures { Reads (spec.conditional (spec.below self.now.depth) tokens.old) result tokens.new }
+        ensures { Reads (spec.conditional (spec.below self.now.depth) tokens.old)
+            result tokens.new }
     {
         let at = tokens.here()?;
         tokens.expect(Terminal::If)?;

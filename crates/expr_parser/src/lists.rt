@@ -13,10 +13,11 @@ use sqlite_items::{Boxed, Items};
 use std::alloc::Global;
 
 impl<F: Fn(Global, bool, usize, &mut Cursor<'_>) -> Result<Expr, Halt<NoTree>>> Exprs<F> {
-    /// Those found before, and the expressions behind them, each after a comma.
+    /// The first expression, and those behind it, each after a comma.
     fn parts_from(&self, first: Expr, tokens: &mut Cursor<'_>) -> Result<Items<Expr>, Halt<NoTree>>
         requires { ReadsExprs self.now.depth (F.pre self.now.below) (F.post self.now.below) }
-        ensures { Reads (with_front (first ∷ []) (spec.more (spec.below self.now.depth) tokens.old)) result tokens.new }
+        ensures { Reads (with_front (first ∷ []) (spec.more (spec.below self.now.depth) tokens.old))
+            result tokens.new }
     {
         let mut found = Items::new(self.alloc);
         found.push(first)?;
@@ -26,9 +27,15 @@ impl<F: Fn(Global, bool, usize, &mut Cursor<'_>) -> Result<Expr, Halt<NoTree>>> 
 
     /// The end of a range behind its beginning.
     #[tactic(auto, unfolding(expr_grammar::specs::ExprReader::behind_low))]
-    fn behind_low(&self, at: At, low: Boxed<Expr>, tokens: &mut Cursor<'_>) -> Result<Expr, Halt<NoTree>>
+    fn behind_low(
+        &self,
+        at: At,
+        low: Boxed<Expr>,
+        tokens: &mut Cursor<'_>,
+    ) -> Result<Expr, Halt<NoTree>>
         requires { ReadsExprs self.now.depth (F.pre self.now.below) (F.post self.now.below) }
-        ensures { Reads (placed_round at low (spec.behind_low (spec.below self.now.depth)) tokens.old) result tokens.new }
+        ensures { Reads (placed_round at low
+            (spec.behind_low (spec.below self.now.depth)) tokens.old) result tokens.new }
     {
         let high = self.boxed_behind(Terminal::DotDot, tokens)?;
         Ok(Expr::Range { at, low, high })
@@ -36,18 +43,26 @@ impl<F: Fn(Global, bool, usize, &mut Cursor<'_>) -> Result<Expr, Halt<NoTree>>> 
 
     /// The other parts of a list behind the first.
     #[tactic(auto, unfolding(expr_grammar::specs::ExprReader::behind_part))]
-    fn behind_part(&self, at: At, first: Boxed<Expr>, tokens: &mut Cursor<'_>) -> Result<Expr, Halt<NoTree>>
+    fn behind_part(
+        &self,
+        at: At,
+        first: Boxed<Expr>,
+        tokens: &mut Cursor<'_>,
+    ) -> Result<Expr, Halt<NoTree>>
         requires { ReadsExprs self.now.depth (F.pre self.now.below) (F.post self.now.below) }
-        ensures { Reads (placed_round at first (spec.behind_part (spec.below self.now.depth)) tokens.old) result tokens.new }
+        ensures { Reads (placed_round at first
+            (spec.behind_part (spec.below self.now.depth)) tokens.old) result tokens.new }
     {
         let parts = self.parts_from(first.into_inner(), tokens)?;
         Ok(Expr::List { at, parts })
     }
 
+    /// What stands in square brackets.
     #[tactic(auto, unfolding(expr_grammar::specs::ExprReader::inside_list))]
     fn inside_list(&self, at: At, tokens: &mut Cursor<'_>) -> Result<Expr, Halt<NoTree>>
         requires { ReadsExprs self.now.depth (F.pre self.now.below) (F.post self.now.below) }
-        ensures { Reads (placed at (spec.inside_list (spec.below self.now.depth)) tokens.old) result tokens.new }
+        ensures { Reads (placed at (spec.inside_list (spec.below self.now.depth)) tokens.old)
+            result tokens.new }
     {
         if !tokens.sees_any(&EXPRESSIONS) {
             let parts = Items::new(self.alloc);
@@ -69,6 +84,10 @@ impl<F: Fn(Global, bool, usize, &mut Cursor<'_>) -> Result<Expr, Halt<NoTree>>> 
     {
         let at = tokens.here()?;
         tokens.expect(Terminal::LeftBracket)?;
-        terminated(self.inside_list(at, tokens)?, tokens, Terminal::RightBracket)
+        terminated(
+            self.inside_list(at, tokens)?,
+            tokens,
+            Terminal::RightBracket,
+        )
     }
 }

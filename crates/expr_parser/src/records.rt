@@ -27,15 +27,21 @@ impl<F: Fn(Global, bool, usize, &mut Cursor<'_>) -> Result<Expr, Halt<NoTree>>> 
     /// One or more of them with commas between.
     fn sets(&self, symbol: Terminal, tokens: &mut Cursor<'_>) -> Result<Items<Set>, Halt<NoTree>>
         requires { ReadsExprs self.now.depth (F.pre self.now.below) (F.post self.now.below) }
-        ensures { Reads (spec.sets (spec.below self.now.depth) symbol tokens.old) result tokens.new }
+        ensures { Reads (spec.sets (spec.below self.now.depth) symbol tokens.old)
+            result tokens.new }
     {
-        separated(self.alloc, |tokens: &mut Cursor<'_>| self.set(symbol, tokens), tokens)
+        separated(
+            self.alloc,
+            |tokens: &mut Cursor<'_>| self.set(symbol, tokens),
+            tokens,
+        )
     }
 
     #[tactic(auto, unfolding(expr_grammar::specs::ExprReader::fields))]
     fn fields(&self, at: At, tokens: &mut Cursor<'_>) -> Result<Expr, Halt<NoTree>>
         requires { ReadsExprs self.now.depth (F.pre self.now.below) (F.post self.now.below) }
-        ensures { Reads (placed at (spec.fields (spec.below self.now.depth)) tokens.old) result tokens.new }
+        ensures { Reads (placed at (spec.fields (spec.below self.now.depth)) tokens.old)
+            result tokens.new }
     {
         let fields = self.sets(Terminal::Equals, tokens)?;
         Ok(Expr::Fields { at, fields })
@@ -43,9 +49,15 @@ impl<F: Fn(Global, bool, usize, &mut Cursor<'_>) -> Result<Expr, Halt<NoTree>>> 
 
     /// New fields over a record.
     #[tactic(auto, unfolding(expr_grammar::specs::ExprReader::extended))]
-    fn extended(&self, at: At, from: Boxed<Expr>, tokens: &mut Cursor<'_>) -> Result<Expr, Halt<NoTree>>
+    fn extended(
+        &self,
+        at: At,
+        from: Boxed<Expr>,
+        tokens: &mut Cursor<'_>,
+    ) -> Result<Expr, Halt<NoTree>>
         requires { ReadsExprs self.now.depth (F.pre self.now.below) (F.post self.now.below) }
-        ensures { Reads (placed_round at from (spec.extended (spec.below self.now.depth)) tokens.old) result tokens.new }
+        ensures { Reads (placed_round at from
+            (spec.extended (spec.below self.now.depth)) tokens.old) result tokens.new }
     {
         let fields = self.sets(Terminal::Equals, tokens)?;
         Ok(Expr::Extend { at, from, fields })
@@ -53,18 +65,30 @@ impl<F: Fn(Global, bool, usize, &mut Cursor<'_>) -> Result<Expr, Halt<NoTree>>> 
 
     /// New values in fields of a record.
     #[tactic(auto, unfolding(expr_grammar::specs::ExprReader::updated))]
-    fn updated(&self, at: At, from: Boxed<Expr>, tokens: &mut Cursor<'_>) -> Result<Expr, Halt<NoTree>>
+    fn updated(
+        &self,
+        at: At,
+        from: Boxed<Expr>,
+        tokens: &mut Cursor<'_>,
+    ) -> Result<Expr, Halt<NoTree>>
         requires { ReadsExprs self.now.depth (F.pre self.now.below) (F.post self.now.below) }
-        ensures { Reads (placed_round at from (spec.updated (spec.below self.now.depth)) tokens.old) result tokens.new }
+        ensures { Reads (placed_round at from (spec.updated (spec.below self.now.depth)) tokens.old)
+            result tokens.new }
     {
         let fields = self.sets(Terminal::LeftArrow, tokens)?;
         Ok(Expr::Update { at, from, fields })
     }
 
     #[tactic(auto, unfolding(expr_grammar::specs::ExprReader::behind_bar))]
-    fn behind_bar(&self, at: At, from: Boxed<Expr>, tokens: &mut Cursor<'_>) -> Result<Expr, Halt<NoTree>>
+    fn behind_bar(
+        &self,
+        at: At,
+        from: Boxed<Expr>,
+        tokens: &mut Cursor<'_>,
+    ) -> Result<Expr, Halt<NoTree>>
         requires { ReadsExprs self.now.depth (F.pre self.now.below) (F.post self.now.below) }
-        ensures { Reads (placed_round at from (spec.behind_bar (spec.below self.now.depth)) tokens.old) result tokens.new }
+        ensures { Reads (placed_round at from
+            (spec.behind_bar (spec.below self.now.depth)) tokens.old) result tokens.new }
     {
         tokens.expect(Terminal::Bar)?;
         if tokens.sees(Terminal::Lower) && tokens.sees_second(Terminal::Equals) {
@@ -90,9 +114,15 @@ impl<F: Fn(Global, bool, usize, &mut Cursor<'_>) -> Result<Expr, Halt<NoTree>>> 
 
     /// A record without a field, perhaps with new ones.
     #[tactic(auto, unfolding(expr_grammar::specs::ExprReader::removed))]
-    fn removed(&self, at: At, from: Boxed<Expr>, tokens: &mut Cursor<'_>) -> Result<Expr, Halt<NoTree>>
+    fn removed(
+        &self,
+        at: At,
+        from: Boxed<Expr>,
+        tokens: &mut Cursor<'_>,
+    ) -> Result<Expr, Halt<NoTree>>
         requires { ReadsExprs self.now.depth (F.pre self.now.below) (F.post self.now.below) }
-        ensures { Reads (placed_round at from (spec.removed (spec.below self.now.depth)) tokens.old) result tokens.new }
+        ensures { Reads (placed_round at from (spec.removed (spec.below self.now.depth)) tokens.old)
+            result tokens.new }
     {
         tokens.expect(Terminal::Minus)?;
         let label = tokens.name(self.alloc, Terminal::Lower)?;
@@ -108,7 +138,8 @@ impl<F: Fn(Global, bool, usize, &mut Cursor<'_>) -> Result<Expr, Halt<NoTree>>> 
     #[tactic(auto, unfolding(expr_grammar::specs::ExprReader::over_record))]
     fn over_record(&self, at: At, tokens: &mut Cursor<'_>) -> Result<Expr, Halt<NoTree>>
         requires { ReadsExprs self.now.depth (F.pre self.now.below) (F.post self.now.below) }
-        ensures { Reads (placed at (spec.over_record (spec.below self.now.depth)) tokens.old) result tokens.new }
+        ensures { Reads (placed at (spec.over_record (spec.below self.now.depth)) tokens.old)
+            result tokens.new }
     {
         let from = Boxed::new(self.alloc, self.inner_atom(tokens)?)?;
         if tokens.sees(Terminal::Bar) {
@@ -121,7 +152,8 @@ impl<F: Fn(Global, bool, usize, &mut Cursor<'_>) -> Result<Expr, Halt<NoTree>>> 
     #[tactic(auto, unfolding(expr_grammar::specs::ExprReader::filled_braces))]
     fn filled_braces(&self, at: At, tokens: &mut Cursor<'_>) -> Result<Expr, Halt<NoTree>>
         requires { ReadsExprs self.now.depth (F.pre self.now.below) (F.post self.now.below) }
-        ensures { Reads (placed at (spec.filled_braces (spec.below self.now.depth)) tokens.old) result tokens.new }
+        ensures { Reads (placed at (spec.filled_braces (spec.below self.now.depth)) tokens.old)
+            result tokens.new }
     {
         if tokens.sees(Terminal::Lower) && tokens.sees_second(Terminal::Equals) {
             self.fields(at, tokens)
@@ -133,7 +165,8 @@ impl<F: Fn(Global, bool, usize, &mut Cursor<'_>) -> Result<Expr, Halt<NoTree>>> 
     #[tactic(auto, unfolding(expr_grammar::specs::ExprReader::inside_braces))]
     fn inside_braces(&self, at: At, tokens: &mut Cursor<'_>) -> Result<Expr, Halt<NoTree>>
         requires { ReadsExprs self.now.depth (F.pre self.now.below) (F.post self.now.below) }
-        ensures { Reads (placed at (spec.inside_braces (spec.below self.now.depth)) tokens.old) result tokens.new }
+        ensures { Reads (placed at (spec.inside_braces (spec.below self.now.depth)) tokens.old)
+            result tokens.new }
     {
         if tokens.sees_any(&ATOMS) {
             self.filled_braces(at, tokens)
@@ -151,6 +184,10 @@ impl<F: Fn(Global, bool, usize, &mut Cursor<'_>) -> Result<Expr, Halt<NoTree>>> 
     {
         let at = tokens.here()?;
         tokens.expect(Terminal::LeftBrace)?;
-        terminated(self.inside_braces(at, tokens)?, tokens, Terminal::RightBrace)
+        terminated(
+            self.inside_braces(at, tokens)?,
+            tokens,
+            Terminal::RightBrace,
+        )
     }
 }

@@ -60,7 +60,8 @@ pub fn annotations_stand(declarations: &[Declaration]) -> bool
 
 /// Whether the first is no annotation, or the first behind it defines its name.
 fn stands_before(first: &Declaration, behind: &[Declaration]) -> bool
-    ensures { result ≡ grammar.stands (grammar.annotated_name (out-Declaration first.now)) behind.now }
+    ensures { result
+        ≡ grammar.stands (grammar.annotated_name (out-Declaration first.now)) behind.now }
 {
     match first {
         Declaration::Annotation { name, .. } => defines(behind, name),
