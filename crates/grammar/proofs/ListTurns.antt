@@ -1,14 +1,13 @@
 -- What a function value reads of a list takes a token at least.
-use Rattle.std.proofs.Common.{◌≡◌, false, List, [], ◌∷◌, ◌++◌, length, ap, arith, length-append, Some, None}
-use Rattle.elm_base.specs.declared.token.At.{At}
+use Rattle.std.proofs.Common.{◌≡◌, false, List, [], ◌∷◌, ◌++◌, length, ap, arith, length-append, Some}
 use Rattle.elm_base.specs.Lexemes.{Lexeme}
 use Rattle.grammar.specs.declared.terminal.Terminal.{Terminal}
 use Rattle.grammar.specs.Rules.{Rule}
-use Rattle.grammar.specs.Reader.{Parser, and_then, here, mark, item, items, block, with_front, ◌⊗◌, ◌▷◌, ◌<$>◌}
+use Rattle.grammar.specs.Reader.{Parser, and_then, mark, ◌⊗◌, ◌▷◌}
 use Rattle.grammar.specs.Lists.{TakesSome}
 use Rattle.grammar.proofs.Laws as laws
 use Rattle.grammar.proofs.Laws.{Reading, Sound, Begins, then_ok, ok_same}
-use Rattle.grammar.proofs.Turns.{Takes, takes, with_one}
+use Rattle.grammar.proofs.Turns.{Takes, takes}
 
 pub shorter : {A : Type 0} {p : Parser A} → TakesSome p → Takes p
 shorter t ts rest x e =
@@ -36,13 +35,3 @@ behind_takes {p = p} symbol t ts rest x e =
 
 pub taken : {A : Type 0} {p : Parser A} → TakesSome p → Sound (λ us x. Unit {0}) p
 taken t = record { reads = λ ts rest x e. let front = t ts rest x e in (front.0 ∷ front.1, front.2, tt) }
-
--- how a block begins
-pub block_first : {A : Type 0} (set : List Terminal) (p : Parser A) (at : At) (x : A) (ts us : List Lexeme) → here ts ≡ Some (at, ts) → item at.column p ts ≡ Some (x, us)
-    → block set p ts ≡ with_front (x ∷ []) (items set p at.column us)
-unfolding block
-block_first set p at x ts us h e = rw h (with_one (item at.column p) (items set p at.column) x ts us e)
-
--- how a list doesn't begin
-pub none_of : {A : Type 0} (p : Parser A) (q : Parser (List A)) (ts : List Lexeme) → p ts ≡ None → ◌<$>◌ (λ x. x.0 ∷ x.1) (◌⊗◌ p q) ts ≡ None
-none_of p q ts e = rw e

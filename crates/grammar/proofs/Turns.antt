@@ -6,7 +6,7 @@ use Rattle.elm_base.specs.Lexemes.{Lexeme}
 use Rattle.grammar.specs.declared.cursor.NoTree.{NoTree}
 use Rattle.grammar.specs.declared.terminal.Terminal.{Terminal}
 use Rattle.grammar.specs.Rules.{Rule}
-use Rattle.grammar.specs.Reader.{Outcome, Parser, and_then, turns, with_front, ◌⊗◌, ◌<$>◌}
+use Rattle.grammar.specs.Reader.{Outcome, Parser, and_then, turns, with_front}
 use Rattle.grammar.proofs.Laws.{Reading, some_of}
 
 -- it takes at least one token
@@ -92,17 +92,3 @@ module _ {A : Type 0} (test : List Lexeme → Bool) (p : Parser A) where
       stop : (n : ℕ) → turns test p n ts ≡ Some ([], ts)
       stop zero = refl
       stop (suc n) = rw s
-
--- ---- how a loop begins
-
-pub with_none : {A : Type 0} (r : Outcome (List A)) → r ≡ with_front [] r
-with_none (Some x) = refl
-with_none None = refl
-
-pub with_one : {A : Type 0} (p : Parser A) (q : Parser (List A)) (x : A) (ts us : List Lexeme) → p ts ≡ Some (x, us)
-    → ◌<$>◌ (λ x. x.0 ∷ x.1) (◌⊗◌ p q) ts ≡ with_front (x ∷ []) (q us)
-with_one {A} p q x ts us e = rw e (go (q us))
-  where
-    go : (r : Outcome (List A)) → and_then {A = A × List A} (and_then r (λ b vs. Some ((x, b), vs))) (λ x us. Some (x.0 ∷ x.1, us)) ≡ with_front (x ∷ []) r
-    go (Some r) = refl
-    go None = refl

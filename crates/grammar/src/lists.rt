@@ -1,5 +1,5 @@
 //! Lists of items that a function value reads. It is named by the parser that it gives, which each caller picks.
-ghost use Rattle.std.specs.Prelude.{◌≡◌};
+ghost use Rattle.std.specs.Prelude.{◌≡◌, [], ◌∷◌};
 ghost use Rattle.grammar.specs.declared.terminal.Terminal.TheVariants as k;
 ghost use Rattle.grammar.specs.Reader as spec;
 ghost use Rattle.grammar.specs.Reader.{Parser, Reads, with_front};
@@ -73,7 +73,24 @@ fn behind_comma<T: Drop, F: Fn(&mut Cursor<'_>) -> Result<T, Halt<NoTree>>>(
     next(tokens)
 }
 
+/// Those found before, and an item as long as a comma stands before it.
+fn behind_commas<T: Drop, F: Fn(&mut Cursor<'_>) -> Result<T, Halt<NoTree>>>(
+    mut found: Items<T>,
+    next: &F,
+    tokens: &mut Cursor<'_>,
+) -> Result<Items<T>, Halt<NoTree>>
+    requires { IsReader (F.pre next.now) (F.post next.now) }
+    ensures { (p : Parser T) → ReadsItems p (F.pre next.now) (F.post next.now) →
+        Reads (with_front found (spec.many (k.Comma ∷ []) (spec.◌▷◌ (spec.mark k.Comma) p) tokens.old)) result tokens.new }
+{
+    'turns: while tokens.sees(Terminal::Comma) {
+        found.push(behind_comma(next, tokens)?)?;
+    }
+    Ok(found)
+}
+
 /// One item or more, with commas between.
+#[tactic(auto, unfolding(crate::specs::Lists::separated))]
 pub fn separated<T: Drop, F: Fn(&mut Cursor<'_>) -> Result<T, Halt<NoTree>>>(
     alloc: Global,
     next: F,
@@ -85,10 +102,7 @@ pub fn separated<T: Drop, F: Fn(&mut Cursor<'_>) -> Result<T, Halt<NoTree>>>(
 {
     let mut found = Items::new(alloc);
     found.push(next(tokens)?)?;
-    'turns: while tokens.sees(Terminal::Comma) {
-        found.push(behind_comma(&next, tokens)?)?;
-    }
-    Ok(found)
+    behind_commas(found, &next, tokens)
 }
 
 /// Whether the next token stands in the column and is one of these.
@@ -115,7 +129,26 @@ fn item<T: Drop, F: Fn(&mut Cursor<'_>) -> Result<T, Halt<NoTree>>>(
     Ok(found)
 }
 
+/// Those found before, and an item as long as one of these tokens begins it in the column.
+fn items<T: Drop, F: Fn(&mut Cursor<'_>) -> Result<T, Halt<NoTree>>>(
+    mut found: Items<T>,
+    column: u32,
+    set: &[Terminal],
+    next: &F,
+    tokens: &mut Cursor<'_>,
+) -> Result<Items<T>, Halt<NoTree>>
+    requires { IsReader (F.pre next.now) (F.post next.now) }
+    ensures { (p : Parser T) → ReadsItems p (F.pre next.now) (F.post next.now) →
+        Reads (with_front found (spec.items set.now p column tokens.old)) result tokens.new }
+{
+    'turns: while begins(tokens, column, set) {
+        found.push(item(column, next, tokens)?)?;
+    }
+    Ok(found)
+}
+
 /// One item or more, each begun in the column of the first by one of these tokens.
+#[tactic(auto, unfolding(crate::specs::Reader::block))]
 pub fn block<T: Drop, F: Fn(&mut Cursor<'_>) -> Result<T, Halt<NoTree>>>(
     alloc: Global,
     set: &[Terminal],
@@ -129,8 +162,5 @@ pub fn block<T: Drop, F: Fn(&mut Cursor<'_>) -> Result<T, Halt<NoTree>>>(
     let column = tokens.here()?.column;
     let mut found = Items::new(alloc);
     found.push(item(column, &next, tokens)?)?;
-    'turns: while begins(tokens, column, set) {
-        found.push(item(column, &next, tokens)?)?;
-    }
-    Ok(found)
+    items(found, column, set, &next, tokens)
 }
