@@ -1,0 +1,4 @@
+pub mod Lexemes
+pub mod Letters
+pub mod Quoted
+pub mod Spaces

@@ -18,6 +18,30 @@ pub enum FaultKind {
     IntTooWide,
     /// A literal of a form that this language leaves out by name, as one with a point.
     Excluded,
+    /// A header or an import is outside the grammar.
+    BadHeader,
+    /// Another declaration is outside the grammar, or nests too deep.
+    BadDeclaration,
+    /// A file has another name than the module for which it was read.
+    NameMismatch,
+    /// A module is imported, over others or at once, by itself.
+    ImportCycle,
+    /// Two declarations of one operator's level differ, or a chain of operators has no tree.
+    BadFixity,
+    /// A name is defined twice in one block, pattern, record or list of parameters.
+    Duplicate,
+    UnknownName,
+    /// Two imports give the name for different things.
+    Ambiguous,
+    /// An import lists what the module doesn't expose.
+    NotExposed,
+    /// A value is needed to compute itself.
+    CyclicValue,
+    BadType,
+    BadPort,
+    IllTyped,
+    /// `main` is missing, or shows no element.
+    BadMain,
     /// The project isn't of the form that the program serves so far.
     Unsupported,
 }

@@ -8,6 +8,8 @@ mod fault;
 mod memory;
 mod name;
 pub mod native;
+mod project;
+mod spaces;
 mod steps;
 mod term;
 mod token;
@@ -19,13 +21,18 @@ pub use fault::{FaultKind, ProjectFault};
 pub use memory::{Halt, NoMemory};
 pub use name::Name;
 pub use native::NativeId;
+pub use project::{
+    AliasOf, Decls, Group, Meaning, PortOf, Program, Project, Resolved, Thing, Typed, UnionOf,
+    Warning,
+};
+pub use spaces::{trim_end, trim_start, without_last};
 pub use steps::Steps;
 pub use term::{Code, Literal, Note, NoteKind, Notes, RunFault, Term, TermPattern, TopValue};
 pub use token::{At, Token, TokenKind};
-pub use tree::{Constructor, Declaration, Expr, Operator, Pattern, Set, Side, Spot, TypeTree};
+pub use tree::{
+    Constructor, Constructors, Declaration, Exposing, Expr, Import, Item, Module, Operator,
+    Pattern, Set, Side, Spot, TypeTree,
+};
 
 /// A value's place in an arena of values: values that were made later have greater places.
 pub type Ref = u32;
-
-#[cfg(test)]
-mod tests;

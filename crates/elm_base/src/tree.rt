@@ -351,6 +351,63 @@ pub enum Declaration {
     },
 }
 
+/// Which of a module's names an import or a header speaks of.
+#[derive(Drop)]
+pub enum Exposing {
+    /// All of them, `(..)`.
+    All,
+    Items(Items<Item>),
+}
+
+/// Which constructors of a type an item speaks of.
+#[derive(Drop)]
+pub enum Constructors {
+    /// None: the type is written alone.
+    Hidden,
+    /// All of them, `T(..)`.
+    All,
+    Listed(Items<Spot>),
+}
+
+/// One entry of a list of exposed names.
+#[derive(Drop)]
+pub enum Item {
+    Value {
+        at: At,
+        name: Name,
+    },
+    /// An operator in brackets.
+    Operator {
+        at: At,
+        name: Name,
+    },
+    /// A type, by its name.
+    Named {
+        at: At,
+        name: Name,
+        constructors: Constructors,
+    },
+}
+
+/// `import module as alias exposing ..`.
+#[derive(Drop)]
+pub struct Import {
+    pub at: At,
+    pub module: Name,
+    pub alias: Option<Name>,
+    pub exposes: Option<Exposing>,
+}
+
+/// A module as it is written. Without a header it stands at line 1, column 1, and exposes all.
+#[derive(Drop)]
+pub struct Module {
+    pub at: At,
+    pub name: Name,
+    pub exposes: Exposing,
+    pub imports: Items<Import>,
+    pub declarations: Items<Declaration>,
+}
+
 impl Spot {
     /// An equal spot of its own.
     pub fn copy(&self, alloc: Global) -> Result<Spot, NoMemory>

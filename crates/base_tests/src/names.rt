@@ -1,4 +1,4 @@
-use super::*;
+use elm_base::{At, Name, NoMemory, Pattern, Spot};
 use sqlite_items::{Boxed, Items};
 use std::alloc::Global;
 use std::test::Fail;

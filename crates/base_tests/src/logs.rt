@@ -1,6 +1,6 @@
 ghost use Rattle.std.specs.Prelude.{◌≤◌, length, IfOk};
 
-use super::*;
+use async_queue::AsyncLog;
 use elm_base::Ref;
 use std::alloc::Global;
 use std::test::Fail;
