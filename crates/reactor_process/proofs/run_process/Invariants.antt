@@ -1,4 +1,4 @@
-use Rattle.reactor.proofs.main.Given as goal
+use Rattle.reactor_process.proofs.run_process.Given as goal
 
 -- the ledger of the steps is the blank one
 abbrev pub ghosts-run : goal.ghosts-run
