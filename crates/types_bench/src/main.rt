@@ -3,8 +3,8 @@
 #![tactic(auto)]
 
 ghost use Rattle.std.specs.Prelude.{IfOk, OnOk};
-ghost use Rattle.type_solve.specs.Kept.{Keeps};
-ghost use Rattle.type_solve.specs.Rests.{RestsApart, IsType};
+ghost use Rattle.type_unify.specs.Kept.{Keeps};
+ghost use Rattle.type_unify.specs.Rests.{RestsApart, IsType};
 ghost use Rattle.type_terms.specs.Terms.{nodes_of};
 
 use anyhow::{Context, Result};
@@ -12,7 +12,7 @@ use elm_base::{Halt, Name, NoMemory};
 use sqlite_items::Items;
 use std::alloc::Global;
 use std::io::Read;
-use type_solve::{NoSolution, Tail, make_row, make_type, unify};
+use type_unify::{NoSolution, Tail, make_row, make_type, unify};
 use type_terms::{Flag, Shape, Store, TermId};
 
 /// A closed row of as many fields of this type, labelled by numbers that rise or fall.

@@ -1,4 +1,4 @@
-use Rattle.type_solve.specs.Rests.{RestsApart, IsType}
+use Rattle.type_unify.specs.Rests.{RestsApart, IsType}
 use Rattle.type_terms.specs.Terms.{nodes_of}
 use Rattle.types_bench.proofs.chain_meets.Given as goal
 

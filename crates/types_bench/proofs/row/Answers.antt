@@ -1,4 +1,4 @@
-use Rattle.type_solve.proofs.Building.{field_pushed}
+use Rattle.type_unify.proofs.Building.{field_pushed}
 use Rattle.types_bench.proofs.row.Goals as goal
 
 pub loop-number-preserved : goal.loop-number-preserved

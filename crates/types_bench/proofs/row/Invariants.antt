@@ -1,4 +1,4 @@
-use Rattle.type_solve.specs.Rests.{IsType}
+use Rattle.type_unify.specs.Rests.{IsType}
 use Rattle.type_terms.specs.Terms.{nodes_of, terms_of, Each}
 use Rattle.types_bench.proofs.row.Given as goal
 
