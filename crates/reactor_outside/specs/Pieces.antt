@@ -1,11 +1,15 @@
 -- Bytes in pieces of given sizes: which piece a read hands out.
-use Rattle.std.specs.Prelude.{◌≡◌, ℕ, zero, suc, ◌-◌, min, List, [], ◌∷◌, Option, Some, None}
+use Rattle.std.specs.Prelude.{◌≡◌, ℕ, zero, suc, ◌-◌, min, List, [], ◌∷◌, length, Option, Some, None}
 
 -- The bytes still to come, and the sizes of the pieces in which they come, the next one first. Behind the last piece
 -- bytes come as they are asked for.
 pub record InPieces : Type 0 where
   pub left : List ℕ
   pub sizes : List ℕ
+
+-- How many bytes may be handed out: what there is room for, of those that are left.
+abbrev pub most_bytes : List ℕ → List ℕ → ℕ
+most_bytes into left = min (length into) (length left)
 
 -- How many bytes a read hands out that may give at most this many: the next piece, cut to these.
 abbrev pub piece_size : List ℕ → ℕ → ℕ

@@ -53,7 +53,8 @@ fn refusal_of(error: io::Error) -> ShelfRefusal
 fn read_whole<F: Read + Drop>(alloc: Global, file: F, limit: usize) -> Result<Vec<u8>, ShelfRefusal>
     ensures within { IfOk result (λ bytes. length bytes.items ≤ limit) }
     ensures whole { IfOk result (λ bytes. IfSome (F.remaining file) (λ held. bytes.items ≡ held)) }
-    ensures too_long { result ≡ Err TooLong → IfSome (F.remaining file) (λ held. limit < length held) }
+    ensures too_long { result ≡ Err TooLong
+        → IfSome (F.remaining file) (λ held. limit < length held) }
 {
     let mut bytes = Vec::new(alloc);
     let mut first = file.take((limit as u64).saturating_add(1));

@@ -1,9 +1,9 @@
-ghost use Rattle.std.specs.Prelude.{◌≡◌, ◌<◌, ◌≤◌, ℕ, min, [], All, Some, None, true, false, vec_len, length, take, IfOk, OnOk, OnErr, IsErr, IsTrue};
+ghost use Rattle.std.specs.Prelude.{◌≡◌, ◌<◌, ◌≤◌, ℕ, [], All, Some, None, true, false, vec_len, length, take, IfOk, OnOk, OnErr, IsErr, IsTrue};
 ghost use Rattle.std.specs.Result.{is_err};
 ghost use Rattle.reactor_outside.specs.Count.{Counts};
 ghost use Rattle.reactor_outside.specs.Source.{after_bytes, HoldsNext, EndsExactly};
 ghost use Rattle.reactor_outside.specs.Sink.{with_bytes};
-ghost use Rattle.reactor_outside.specs.Pieces.{HandsOut};
+ghost use Rattle.reactor_outside.specs.Pieces.{HandsOut, most_bytes};
 ghost use Rattle.reactor_outside.specs.Repeated.{repeated};
 ghost use Rattle.reactor_outside.specs.Calls.{Calls, next_fails, after_call};
 
@@ -86,7 +86,7 @@ impl Source for MemSource {
         ensures failed { OnErr result (Some self.new.left ≡ Some self.old.left) }
         // It hands out the next piece, cut by the slice and by the bytes left. A call that fails cuts none.
         ensures piece { IfOk result (λ n.
-            HandsOut self.old.sizes (min (length into.old) (length self.old.left)) n self.new.sizes) }
+            HandsOut self.old.sizes (most_bytes into.old self.old.left) n self.new.sizes) }
         ensures no_piece { OnErr result (self.new.sizes ≡ self.old.sizes) }
         // It fails exactly at the calls that are to fail, and counts each.
         ensures fails { is_err result ≡ next_fails self.old.calls }
@@ -148,7 +148,8 @@ impl Sink for MemSink {
         ensures count { Counts self.old.calls.failed self.new.calls.failed result }
         ensures within { IfOk result (λ n. n ≤ length piece.now) }
         ensures some { 0 < length piece.now → IfOk result (λ n. 0 < n) }
-        ensures took { IfOk result (λ n. Some self.new.taken ≡ with_bytes (take n piece.now) (Some self.old.taken)) }
+        ensures took { IfOk result (λ n.
+            Some self.new.taken ≡ with_bytes (take n piece.now) (Some self.old.taken)) }
         ensures failed { OnErr result (Some self.new.taken ≡ Some self.old.taken) }
         // It fails at each call that is to fail, and counts each call.
         ensures fails { IsTrue (next_fails self.old.calls) → IsErr result }

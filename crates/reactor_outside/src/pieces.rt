@@ -1,5 +1,5 @@
-ghost use Rattle.std.specs.Prelude.{◌≡◌, ◌≤◌, ◌<◌, ◌↔◌, min, [], length, take, drop, All};
-ghost use Rattle.reactor_outside.specs.Pieces.{piece_size, later_sizes};
+ghost use Rattle.std.specs.Prelude.{◌≡◌, ◌≤◌, ◌<◌, ◌↔◌, [], length, take, drop, All};
+ghost use Rattle.reactor_outside.specs.Pieces.{most_bytes, piece_size, later_sizes};
 
 use std::marker::Model;
 
@@ -17,7 +17,8 @@ impl Model for Sizes {
 
     ghost view = { λ of. drop of.next of.sizes.items };
 
-    ghost invariant = { λ of. (of.next ≤ length of.sizes.items) × All (λ size. 0 < size) of.sizes.items };
+    ghost invariant = { λ of.
+        (of.next ≤ length of.sizes.items) × All (λ size. 0 < size) of.sizes.items };
 }
 
 impl Sizes {
@@ -64,7 +65,10 @@ impl Model for Pieces {
 
     ghost Value = { InPieces };
 
-    ghost view = { λ pieces. record { left = drop pieces.at pieces.bytes.items; sizes = pieces.sizes } };
+    ghost view = { λ pieces. record {
+        left = drop pieces.at pieces.bytes.items;
+        sizes = pieces.sizes;
+    } };
 
     ghost invariant = { λ pieces. pieces.at ≤ length pieces.bytes.items };
 }
@@ -89,8 +93,8 @@ impl Pieces {
         ensures next { take result into.new ≡ take result self.old.left }
         ensures rest { self.new.left ≡ drop result self.old.left }
         ensures end { 0 < length into.old → (result ≡ 0) ↔ (self.old.left ≡ []) }
-        ensures size { result ≡ piece_size self.old.sizes (min (length into.old) (length self.old.left)) }
-        ensures later { self.new.sizes ≡ later_sizes self.old.sizes (min (length into.old) (length self.old.left)) }
+        ensures size { result ≡ piece_size self.old.sizes (most_bytes into.old self.old.left) }
+        ensures later { self.new.sizes ≡ later_sizes self.old.sizes (most_bytes into.old self.old.left) }
     {
         let most = into.len().min(self.bytes.len() - self.at);
         let count = self.sizes.take(most);

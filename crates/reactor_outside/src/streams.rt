@@ -35,7 +35,8 @@ impl<R: Read> Source for ReaderSource<R> {
         ensures within { IfOk result (λ n. n ≤ length into.old) }
         // Where the reader tells its bytes, exactly what was read is gone from them, nothing after a failure, and no
         // byte is read only where none is left.
-        ensures bytes { ReadConsumes (R.remaining self.old.reader) (R.remaining self.new.reader) result into.new }
+        ensures bytes { ReadConsumes
+            (R.remaining self.old.reader) (R.remaining self.new.reader) result into.new }
     {
         match read_some(&mut self.reader, into) {
             Ok(count) => Ok(count),
@@ -75,7 +76,8 @@ impl<W: Write> Sink for WriterSink<W> {
         ensures within { IfOk result (λ n. n ≤ length piece.now) }
         ensures some { 0 < length piece.now → IfOk result (λ n. 0 < n) }
         // Where the writer tells its bytes, exactly what was written is added to them, and nothing after a failure.
-        ensures bytes { WriteAppends (W.contents self.old.writer) (W.contents self.new.writer) result piece.now }
+        ensures bytes { WriteAppends
+            (W.contents self.old.writer) (W.contents self.new.writer) result piece.now }
     {
         match write_some(&mut self.writer, piece) {
             Ok(count) => {

@@ -1,5 +1,5 @@
-ghost use Rattle.std.specs.Prelude.{◌≡◌, ◌<◌, ◌≤◌, ℕ, min, length, IfOk, IsOk, All, Some, None};
-ghost use Rattle.reactor_outside.specs.Pieces.{piece_size, later_sizes};
+ghost use Rattle.std.specs.Prelude.{◌≡◌, ◌<◌, ◌≤◌, ℕ, length, IfOk, IsOk, All, Some, None};
+ghost use Rattle.reactor_outside.specs.Pieces.{most_bytes, piece_size, later_sizes};
 ghost use Rattle.reactor_outside.specs.Source.{after_bytes, HoldsNext, EndsExactly};
 
 use crate::pieces::Pieces;
@@ -46,8 +46,9 @@ impl Source for SureSource {
         ensures rest { IfOk result (λ n. Some self.new.left ≡ after_bytes n (Some self.old.left)) }
         ensures end { IfOk result (λ n. EndsExactly n (Some self.old.left) into.old) }
         // It hands out the next piece, cut by the slice and by the bytes left.
-        ensures size { IfOk result (λ n. n ≡ piece_size self.old.sizes (min (length into.old) (length self.old.left))) }
-        ensures later { self.new.sizes ≡ later_sizes self.old.sizes (min (length into.old) (length self.old.left)) }
+        ensures size { IfOk result (λ n.
+            n ≡ piece_size self.old.sizes (most_bytes into.old self.old.left)) }
+        ensures later { self.new.sizes ≡ later_sizes self.old.sizes (most_bytes into.old self.old.left) }
     {
         Ok(self.pieces.hand_out(into))
     }

@@ -9,7 +9,7 @@ mod Asking
 mod Binding
 pub mod Building
 mod Deciding
-mod Standing
+pub mod Standing
 mod Visiting
 mod Unifying
 mod Taking

@@ -100,6 +100,7 @@ impl<'a> Printer<'a> {
         self.text.push_str("new").ok()
     }
 
+    #[cycle(prints)]
     fn put(&mut self, term: TermId, inside: Inside, depth: u32) -> Option<()> {
         let less = depth.checked_sub(1)?;
         let end = self.end(term)?;
@@ -146,6 +147,7 @@ impl<'a> Printer<'a> {
     }
 
     // A record: the rest behind all its fields, where it has one, and then all fields.
+    #[cycle(prints)]
     fn put_row(&mut self, row: TermId, depth: u32) -> Option<()> {
         let less = depth.checked_sub(1)?;
         self.text.push_str("{").ok()?;
@@ -168,6 +170,7 @@ impl<'a> Printer<'a> {
         self.text.push_str(" }").ok()
     }
 
+    #[cycle(prints)]
     fn put_fields(&mut self, row: TermId, depth: u32) -> Option<()> {
         let less = depth.checked_sub(1)?;
         let mut next = Some(row);

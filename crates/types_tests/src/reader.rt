@@ -97,6 +97,7 @@ impl Reader {
         }
     }
 
+    #[cycle(reads)]
     fn arrow(&mut self, words: &mut Words<'_>, depth: u32) -> Option<usize> {
         let less = depth.checked_sub(1)?;
         let from = self.call(words, less)?;
@@ -108,6 +109,7 @@ impl Reader {
     }
 
     // A name with its arguments, or one type.
+    #[cycle(reads)]
     fn call(&mut self, words: &mut Words<'_>, depth: u32) -> Option<usize> {
         let less = depth.checked_sub(1)?;
         let token = words.next()?;
@@ -125,6 +127,7 @@ impl Reader {
     }
 
     // A type that begins with this word.
+    #[cycle(reads)]
     fn part(&mut self, words: &mut Words<'_>, first: Token<'_>, depth: u32) -> Option<usize> {
         let less = depth.checked_sub(1)?;
         match first.kind {
@@ -142,6 +145,7 @@ impl Reader {
         }
     }
 
+    #[cycle(reads)]
     fn brackets(&mut self, words: &mut Words<'_>, depth: u32) -> Option<usize> {
         let less = depth.checked_sub(1)?;
         let mut parts = Items::new(self.alloc);
@@ -160,6 +164,7 @@ impl Reader {
         None
     }
 
+    #[cycle(reads)]
     fn braces(&mut self, words: &mut Words<'_>, depth: u32) -> Option<usize> {
         let less = depth.checked_sub(1)?;
         let mut rest = None;

@@ -85,14 +85,21 @@ impl Scene {
     }
 
     // A type more.
+    fn keep(&mut self, made: TermId) -> Result<usize, NoMemory>
+        requires { IsType (nodes_of self.old) made }
+    {
+        let place = self.made.len();
+        self.made.push(made)?;
+        Ok(place)
+    }
+
+    // A new type.
     fn push(&mut self, shape: Shape) -> Result<usize, NoMemory>
         requires parts { Each (IsType (nodes_of self.old)) (parts shape) }
         requires no_rest { HasNoRest shape }
     {
-        let place = self.made.len();
         let made = self.types.make_type(shape)?;
-        self.made.push(made)?;
-        Ok(place)
+        self.keep(made)
     }
 
     pub fn variable(&mut self, flag: Flag) -> Result<usize, NoMemory> {
@@ -116,18 +123,44 @@ impl Scene {
         self.push(Shape::Tuple { parts })
     }
 
-    /// A rest, which is a variable or, where a number is given, the opaque type of that number, and its term.
-    pub fn rest(&mut self, number: Option<u32>) -> Result<(usize, TermId), NoMemory> {
+    fn make_rest(&mut self) -> Result<Tail, NoMemory>
+        ensures { IfOk result (IsTail (nodes_of self.new)) }
+    {
+        let tail = self.types.make_rest(self.alloc)?;
+        Ok(tail)
+    }
+
+    fn make_rigid_rest(&mut self, number: u32) -> Result<Tail, NoMemory>
+        ensures { IfOk result (IsTail (nodes_of self.new)) }
+    {
+        let tail = self.types.make_rigid_rest(self.alloc, number)?;
+        Ok(tail)
+    }
+
+    // A rest more, and its term.
+    fn keep_rest(&mut self, tail: Tail) -> Result<(usize, TermId), NoMemory>
+        requires { IsTail (nodes_of self.old) tail }
+    {
         let place = self.rests.len();
-        let tail = match number {
-            Some(number) => self.types.make_rigid_rest(self.alloc, number)?,
-            None => self.types.make_rest(self.alloc)?,
-        };
         self.rests.push(tail)?;
         match tail {
             Tail::Open { at } => Ok((place, at)),
             Tail::Rigid { at, number: _ } => Ok((place, at)),
             Tail::Closed => Err(NoMemory),
+        }
+    }
+
+    /// A new rest, which is a variable or, where a number is given, the opaque type of that number, and its term.
+    pub fn rest(&mut self, number: Option<u32>) -> Result<(usize, TermId), NoMemory> {
+        match number {
+            Some(number) => {
+                let tail = self.make_rigid_rest(number)?;
+                self.keep_rest(tail)
+            }
+            None => {
+                let tail = self.make_rest()?;
+                self.keep_rest(tail)
+            }
         }
     }
 
@@ -142,17 +175,11 @@ impl Scene {
         Ok(found)
     }
 
-    pub fn record(
-        &mut self,
-        fields: &[(Name, usize)],
-        rest: Option<usize>,
-    ) -> Result<usize, NoMemory> {
-        let place = self.made.len();
+    pub fn record(&mut self, fields: &[(Name, usize)], rest: Option<usize>) -> Result<usize, NoMemory> {
         let tail = self.tail(rest)?;
         let fields = self.fields(fields)?;
         let made = self.types.make_row(fields, tail)?;
-        self.made.push(made)?;
-        Ok(place)
+        self.keep(made)
     }
 
     /// Notes that the sort of the first type is at most that of the second one.
