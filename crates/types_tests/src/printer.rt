@@ -127,11 +127,11 @@ impl<'a> Printer<'a> {
             }
             Shape::Tuple { parts } => {
                 self.text.push_str("(").ok()?;
-                let mut between = "";
+                let mut first = true;
                 for part in parts.as_slice() {
-                    self.text.push_str(between).ok()?;
+                    self.put_where(!first, ", ")?;
                     self.put(*part, Inside::Nothing, less)?;
-                    between = ", ";
+                    first = false;
                 }
                 self.text.push_str(")").ok()
             }
@@ -174,17 +174,18 @@ impl<'a> Printer<'a> {
     fn put_fields(&mut self, row: TermId, depth: u32) -> Option<()> {
         let less = depth.checked_sub(1)?;
         let mut next = Some(row);
-        let mut between = " ";
+        let mut first = true;
         for _ in 0..DEPTH {
             if let Some(at) = next {
                 next = None;
                 if let Shape::Row { fields, rest } = self.shape(at)? {
                     for field in fields.as_slice() {
-                        self.text.push_str(between).ok()?;
+                        self.put_where(first, " ")?;
+                        self.put_where(!first, ", ")?;
                         self.put_bytes(field.0.bytes())?;
                         self.text.push_str(" : ").ok()?;
                         self.put(field.1, Inside::Nothing, less)?;
-                        between = ", ";
+                        first = false;
                     }
                     next = *rest;
                 }

@@ -175,7 +175,11 @@ impl Scene {
         Ok(found)
     }
 
-    pub fn record(&mut self, fields: &[(Name, usize)], rest: Option<usize>) -> Result<usize, NoMemory> {
+    pub fn record(
+        &mut self,
+        fields: &[(Name, usize)],
+        rest: Option<usize>,
+    ) -> Result<usize, NoMemory> {
         let tail = self.tail(rest)?;
         let fields = self.fields(fields)?;
         let made = self.types.make_row(fields, tail)?;
