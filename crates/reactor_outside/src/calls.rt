@@ -18,9 +18,9 @@ impl Model for CallCount {
     ghost Value = { Calls };
 
     ghost view = { λ count. record {
-        made = count.made;
-        failing = count.failing.items;
-        failed = count.failed;
+      made = count.made;
+      failing = count.failing.items;
+      failed = count.failed;
     } };
 }
 

@@ -66,8 +66,8 @@ impl Model for Pieces {
     ghost Value = { InPieces };
 
     ghost view = { λ pieces. record {
-        left = drop pieces.at pieces.bytes.items;
-        sizes = pieces.sizes;
+      left = drop pieces.at pieces.bytes.items;
+      sizes = pieces.sizes;
     } };
 
     ghost invariant = { λ pieces. pieces.at ≤ length pieces.bytes.items };

@@ -197,7 +197,7 @@ narrowing_more old now new at flag left rest d n e state solutions =
     let is = state had.0 had.1 in
     let w = within_front (nodes_of old) at rest d (subst (StandWithin (nodes_of old) at) e n.inside) in
     let kept = subst (λ (nodes : List Node). OnlyNarrows (nodes_of old) nodes at) (sym (ap nodes_of is))
-        (narrows_more (nodes_of old) (nodes_of now) at d.at (joined had.0 d.flag) n.kept w.1.0 w.1.1 w.1.2) in record {
+    (narrows_more (nodes_of old) (nodes_of now) at d.at (joined had.0 d.flag) n.kept w.1.0 w.1.1 w.1.2) in record {
       grown = grown_more old now new (set (nodes_of now) d.at (End (shape.Variable (joined had.0 d.flag)))) n.grown is (λ each. narrowed_apart (nodes_of old) (nodes_of new) at kept (each 0));
       to = λ s h a. let r = (solutions s).0 h in n.to s r.0 (subst (AllHave s) (sym e) ((have_front s rest d).1 (a, r.1)));
       back = λ s h f. let r = n.back s h f in let p = (have_front s rest d).0 (subst (AllHave s) e r.1) in ((solutions s).1 (r.0, p.1), p.0);

@@ -78,7 +78,11 @@ impl Types {
     }
 
     /// A new row of these fields, of one label the newest first, over a tail that is there.
-    pub fn make_row(&mut self, fields: Items<(Name, TermId)>, tail: Tail) -> Result<TermId, NoMemory>
+    pub fn make_row(
+        &mut self,
+        fields: Items<(Name, TermId)>,
+        tail: Tail,
+    ) -> Result<TermId, NoMemory>
         requires types { Each (IsType (nodes_of self.old)) (terms_of fields) }
         requires tail { IsTail (nodes_of self.old) tail }
         ensures place { IfOk result (λ at. at ≡ length (nodes_of self.old)) }
