@@ -4,6 +4,7 @@ ghost use Rattle.std.specs.Prelude.{◌≡◌, ◌≤◌, ◌-◌, length, drop,
 ghost use Rattle.type_unify.specs.Kept.{HasNoRest};
 ghost use Rattle.type_unify.specs.Rests.{IsType};
 ghost use Rattle.type_unify.specs.Steps.{IsTail};
+ghost use Rattle.type_terms.specs.Solutions.{IsSolvable};
 ghost use Rattle.type_terms.specs.Terms.{nodes_of, parts, terms_of, Each};
 
 use elm_base::{Halt, Name, NoMemory};
@@ -44,8 +45,10 @@ impl Scene {
         })
     }
 
+    /// The store, which has a solution.
     pub fn store(&self) -> &Store
-        ensures { result.now ≡ self.now }
+        ensures store { result.now ≡ self.now }
+        ensures solvable { IsSolvable (nodes_of result.now) }
     {
         self.types.store()
     }
