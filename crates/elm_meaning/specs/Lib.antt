@@ -14,5 +14,6 @@ pub mod Matching
 pub mod Substitution
 pub mod Progress
 pub mod Evaluation
+pub mod Spelling
 pub mod Examples
 pub mod Terms
