@@ -14,6 +14,9 @@ pub mod Matching
 pub mod Substitution
 pub mod Progress
 pub mod Evaluation
+pub mod ClosedRules
+pub mod FreeNames
+pub mod WithinFuel
 pub mod Spelling
 pub mod Examples
 pub mod Terms

@@ -87,6 +87,8 @@ pub fn orders_cost_their_pairs()
     ensures functions { reply LESS (native_value ADD ∷ native_value ADD ∷ [])
         ≡ after 1 (Faults FunctionEquality) }
     ensures no_order { reply LESS (Unit ∷ Unit ∷ []) ≡ after 1 Answer.NoRule }
+    ensures no_parts { reply LESS (made "Just" (int 1 ∷ []) ∷ made "Just" (int 1 ∷ []) ∷ [])
+        ≡ after 1 Answer.NoRule }
 {}
 
 /// `++` costs the chars of the result, or the elements on the left.
