@@ -8,3 +8,4 @@ pub mod Substituted
 pub mod Unnamed
 pub mod MoreTops
 pub mod Within
+pub mod Captured

@@ -98,17 +98,22 @@ pub fn constructors_go_by_name()
 
 /// Fields are visited by label in the order of bytes, of one label the newest first. There is no order.
 pub fn records_go_by_label()
-    ensures same { visited Equality (record_of (("x", int 1) ∷ ("y", int 2) ∷ [])) (record_of (("x", int 1) ∷ ("y", int 2) ∷ []))
+    ensures same { visited Equality (record_of (("x", int 1) ∷ ("y", int 2) ∷ []))
+        (record_of (("x", int 1) ∷ ("y", int 2) ∷ []))
         ≡ after_pairs 3 Equal }
-    ensures first { visited Equality (record_of (("x", int 1) ∷ ("y", int 2) ∷ [])) (record_of (("x", int 3) ∷ ("y", int 4) ∷ []))
+    ensures first { visited Equality (record_of (("x", int 1) ∷ ("y", int 2) ∷ []))
+        (record_of (("x", int 3) ∷ ("y", int 4) ∷ []))
         ≡ after_pairs 2 Different }
-    ensures newest { visited Equality (record_of (("x", text "a") ∷ ("x", int 1) ∷ [])) (record_of (("x", text "b") ∷ ("x", int 1) ∷ []))
+    ensures newest { visited Equality (record_of (("x", text "a") ∷ ("x", int 1) ∷ []))
+        (record_of (("x", text "b") ∷ ("x", int 1) ∷ []))
         ≡ after_pairs 3 Different }
-    ensures hidden { visited Equality (record_of (("x", int 1) ∷ ("x", int 2) ∷ [])) (record_of (("x", int 1) ∷ ("x", int 3) ∷ []))
+    ensures hidden { visited Equality (record_of (("x", int 1) ∷ ("x", int 2) ∷ []))
+        (record_of (("x", int 1) ∷ ("x", int 3) ∷ []))
         ≡ after_pairs 3 Different }
     ensures labels { visited Equality (record_of (("x", Unit) ∷ [])) (record_of (("y", Unit) ∷ []))
         ≡ after_pairs 1 Different }
-    ensures times { visited Equality (record_of (("x", Unit) ∷ ("x", Unit) ∷ [])) (record_of (("x", Unit) ∷ []))
+    ensures times { visited Equality (record_of (("x", Unit) ∷ ("x", Unit) ∷ []))
+        (record_of (("x", Unit) ∷ []))
         ≡ after_pairs 1 Different }
     ensures none { visited Equality (record_of []) (record_of []) ≡ after_pairs 1 Equal }
     ensures no_order { visited Order (record_of []) (record_of []) ≡ after_pairs 1 Different }
@@ -135,9 +140,11 @@ pub fn functions_have_no_equality()
         ≡ after_pairs 1 FunctionMet }
     ensures met_in_order { visited Order (native_value NEGATE) (native_value TO_STRING)
         ≡ after_pairs 1 FunctionMet }
-    ensures earlier { visited Equality (tuple (int 1 ∷ native_value NEGATE ∷ [])) (tuple (int 2 ∷ native_value NEGATE ∷ []))
+    ensures earlier { visited Equality (tuple (int 1 ∷ native_value NEGATE ∷ []))
+        (tuple (int 2 ∷ native_value NEGATE ∷ []))
         ≡ after_pairs 2 Different }
-    ensures later { visited Equality (tuple (native_value NEGATE ∷ int 1 ∷ [])) (tuple (native_value NEGATE ∷ int 2 ∷ []))
+    ensures later { visited Equality (tuple (native_value NEGATE ∷ int 1 ∷ []))
+        (tuple (native_value NEGATE ∷ int 2 ∷ []))
         ≡ after_pairs 2 FunctionMet }
 {}
 

@@ -36,13 +36,19 @@ pub fn spacers_are_blank()
 
 /// Items under each other fill up to the widest, items beside each other to the highest.
 pub fn items_flow()
-    ensures down { reply FLOW (made "down" [] ∷ list (element 2 1 ("ab" ∷ []) ∷ element 4 1 ("c  5" ∷ []) ∷ []) ∷ [])
+    ensures down { reply FLOW
+        (made "down" [] ∷ list (element 2 1 ("ab" ∷ []) ∷ element 4 1 ("c  5" ∷ []) ∷ []) ∷ [])
         ≡ after 10 (Gives (element 4 2 ("ab  " ∷ "c  5" ∷ []))) }
-    ensures up { reply FLOW (made "up" [] ∷ list (element 1 1 ("a" ∷ []) ∷ element 1 1 ("b" ∷ []) ∷ []) ∷ [])
+    ensures up { reply FLOW
+        (made "up" [] ∷ list (element 1 1 ("a" ∷ []) ∷ element 1 1 ("b" ∷ []) ∷ []) ∷ [])
         ≡ after 4 (Gives (element 1 2 ("b" ∷ "a" ∷ []))) }
-    ensures right { reply FLOW (made "right" [] ∷ list (element 1 1 ("c" ∷ []) ∷ element 1 2 ("5" ∷ "6" ∷ []) ∷ []) ∷ [])
+    ensures right { reply FLOW
+        (made "right" [] ∷ list (element 1 1 ("c" ∷ []) ∷ element 1 2 ("5" ∷ "6" ∷ []) ∷ []) ∷
+        [])
         ≡ after 6 (Gives (element 2 2 ("c5" ∷ " 6" ∷ []))) }
-    ensures left { reply FLOW (made "left" [] ∷ list (element 1 1 ("c" ∷ []) ∷ element 1 2 ("5" ∷ "6" ∷ []) ∷ []) ∷ [])
+    ensures left { reply FLOW
+        (made "left" [] ∷ list (element 1 1 ("c" ∷ []) ∷ element 1 2 ("5" ∷ "6" ∷ []) ∷ []) ∷
+        [])
         ≡ after 6 (Gives (element 2 2 ("5c" ∷ "6 " ∷ []))) }
     ensures nothing { reply FLOW (made "down" [] ∷ list [] ∷ [])
         ≡ after 0 (Gives (element 0 0 [])) }
@@ -63,7 +69,8 @@ pub fn containers_frame()
         ≡ after 6 (Gives (element 3 2 ("   " ∷ " ab" ∷ []))) }
     ensures cut_off { reply CONTAINER (int 2 ∷ int 1 ∷ made "middle" [] ∷ element 5 1 ("abcde" ∷ []) ∷ [])
         ≡ after 2 (Gives (element 2 1 ("cd" ∷ []))) }
-    ensures cut_left { reply CONTAINER (int 2 ∷ int 1 ∷ made "bottomRight" [] ∷ element 3 2 ("abc" ∷ "def" ∷ []) ∷ [])
+    ensures cut_left { reply CONTAINER
+        (int 2 ∷ int 1 ∷ made "bottomRight" [] ∷ element 3 2 ("abc" ∷ "def" ∷ []) ∷ [])
         ≡ after 2 (Gives (element 2 1 ("ef" ∷ []))) }
     ensures negative { reply CONTAINER (minus 1 ∷ int 1 ∷ made "middle" [] ∷ element 1 1 ("a" ∷ []) ∷ [])
         ≡ after 0 (Gives (element 0 1 ("" ∷ []))) }

@@ -27,7 +27,10 @@ pub fn one_branch_is_evaluated()
 
 /// Conditions one after the other, until one holds.
 pub fn the_first_true_condition_is_taken()
-    ensures order { run (guards ((watch "a" (Done (truth false)), noted "b" 1) ∷ (watch "c" (Done (truth true)), noted "d" 2)
+    ensures order { run
+        (guards
+        ((watch "a" (Done (truth false)), noted "b" 1) ∷
+        (watch "c" (Done (truth true)), noted "d" 2)
         ∷ (watch "e" (Done (truth true)), noted "f" 3) ∷ [])) 16
         ≡ noting (watched "a" "False" ∷ watched "c" "True" ∷ watched "d" "2" ∷ []) (gives (int 2)) }
     ensures none { run (guards ((Done (truth false), Done (int 1)) ∷ [])) 5 ≡ fails NoBranch 5 }
@@ -39,7 +42,8 @@ pub fn the_first_branch_that_fits_is_taken()
     ensures order { run (case_of (noted "s" 7) ((Pattern.Literal (literal.Int (pos 1)), noted "a" 1)
         ∷ (Pattern.Local 0, noted "b" 2) ∷ (Pattern.Anything, noted "c" 3) ∷ [])) 6
         ≡ noting (watched "s" "7" ∷ watched "b" "2" ∷ []) (gives (int 2)) }
-    ensures bound { run (case_of (list_term (Done (int 7) ∷ Done (int 8) ∷ [])) ((Pattern.Nil, Done (int 1))
+    ensures bound { run
+        (case_of (list_term (Done (int 7) ∷ Done (int 8) ∷ [])) ((Pattern.Nil, Done (int 1))
         ∷ (Pattern.Cons (Pattern.Local 3) (Pattern.Local 4), Local 4) ∷ [])) 0
         ≡ gives (list (int 8 ∷ [])) }
     ensures hides { run (LetValue (Pattern.Local 0) (Done (int 1))
@@ -48,19 +52,25 @@ pub fn the_first_branch_that_fits_is_taken()
     ensures outer { run (LetValue (Pattern.Local 0) (Done (int 1))
         (case_of (Done (int 2)) ((Pattern.Local 1, Local 0) ∷ []))) 0
         ≡ gives (int 1) }
-    ensures none { run (case_of (Done (int 3)) ((Pattern.Literal (literal.Int (pos 1)), Done (int 1)) ∷ [])) 5
+    ensures none { run
+        (case_of (Done (int 3)) ((Pattern.Literal (literal.Int (pos 1)), Done (int 1)) ∷ [])) 5
         ≡ fails NoMatch 5 }
-    ensures fault { run (case_of (native_of DIVIDE (int 1 ∷ int 0 ∷ [])) ((Pattern.Anything, Done (int 1)) ∷ [])) 5
+    ensures fault { run
+        (case_of (native_of DIVIDE (int 1 ∷ int 0 ∷ []))
+        ((Pattern.Anything, Done (int 1)) ∷ [])) 5
         ≡ fails DivideByZero 3 }
 {}
 
 /// The value first, and the body under the names of the pattern, which hide others and don't stand in the value.
 pub fn values_are_named()
-    ensures order { run (LetValue (Pattern.Local 0) (noted "a" 1) (tuple_term (noted "b" 2 ∷ Local 0 ∷ []))) 6
+    ensures order { run
+        (LetValue (Pattern.Local 0) (noted "a" 1) (tuple_term (noted "b" 2 ∷ Local 0 ∷ []))) 6
         ≡ noting (watched "a" "1" ∷ watched "b" "2" ∷ []) (gives (tuple (int 2 ∷ int 1 ∷ []))) }
     ensures once { run (LetValue (Pattern.Local 0) (noted "a" 1) (tuple_term (Local 0 ∷ Local 0 ∷ []))) 3
         ≡ noting (watched "a" "1" ∷ []) (gives (tuple (int 1 ∷ int 1 ∷ []))) }
-    ensures hides { run (LetValue (Pattern.Local 0) (Done (int 1)) (LetValue (Pattern.Local 0) (Done (int 2)) (Local 0))) 0
+    ensures hides { run
+        (LetValue (Pattern.Local 0) (Done (int 1))
+        (LetValue (Pattern.Local 0) (Done (int 2)) (Local 0))) 0
         ≡ gives (int 2) }
     ensures outside { run (LetValue (Pattern.Local 0) (Done (int 1))
         (LetValue (Pattern.Local 0) (tuple_term (Local 0 ∷ [])) (Local 0))) 0
@@ -90,14 +100,18 @@ pub fn groups_call_each_other()
         )
         ∷ [])) (Call (Local 0) (Done (int 2)))) 16
         ≡ gives (truth true) }
-    ensures second { run (LetFunctions (functions ((0, Pattern.Anything, Done (int 7)) ∷ (1, Pattern.Local 3, Local 3) ∷ []))
+    ensures second { run
+        (LetFunctions
+        (functions ((0, Pattern.Anything, Done (int 7)) ∷ (1, Pattern.Local 3, Local 3) ∷ []))
         (Call (Local 1) (Done (int 5)))) 1
         ≡ gives (int 5) }
     ensures hides { run (LetValue (Pattern.Local 0) (Done (int 1))
         (LetFunctions (functions ((0, Pattern.Anything, Done (int 7)) ∷ []))
         (Call (Local 0) (Done (int 5))))) 1
         ≡ gives (int 7) }
-    ensures parameter { run (LetFunctions (functions ((0, Pattern.Local 0, Local 0) ∷ [])) (Call (Local 0) (Done (int 5)))) 1
+    ensures parameter { run
+        (LetFunctions (functions ((0, Pattern.Local 0, Local 0) ∷ []))
+        (Call (Local 0) (Done (int 5)))) 1
         ≡ gives (int 5) }
     ensures outer { run (LetValue (Pattern.Local 4) (Done (int 1))
         (LetFunctions (functions ((0, Pattern.Anything, Local 4) ∷ []))
@@ -110,7 +124,9 @@ pub fn groups_call_each_other()
     ensures body_keeps { run (LetValue (Pattern.Local 4) (Done (int 1))
         (LetFunctions (functions ((0, Pattern.Anything, Done (int 7)) ∷ [])) (Local 4))) 0
         ≡ gives (int 1) }
-    ensures no_match { run (LetFunctions (functions ((0, Pattern.Literal (literal.Int (pos 1)), Done (int 7)) ∷ []))
+    ensures no_match { run
+        (LetFunctions
+        (functions ((0, Pattern.Literal (literal.Int (pos 1)), Done (int 7)) ∷ []))
         (Call (Local 0) (Done (int 5)))) 4
         ≡ fails NoMatch 3 }
     ensures free { run (LetFunctions (functions []) (Done (int 1))) 0 ≡ gives (int 1) }
@@ -123,7 +139,8 @@ pub fn parts_go_from_left_to_right()
     ensures list { run (list_term (noted "a" 1 ∷ noted "b" 2 ∷ [])) 6
         ≡ noting (watched "a" "1" ∷ watched "b" "2" ∷ []) (gives (list (int 1 ∷ int 2 ∷ []))) }
     ensures empty { run (list_term []) 0 ≡ gives (list []) }
-    ensures fault { run (tuple_term (noted "a" 1 ∷ native_of DIVIDE (int 1 ∷ int 0 ∷ []) ∷ noted "b" 2 ∷ [])) 9
+    ensures fault { run
+        (tuple_term (noted "a" 1 ∷ native_of DIVIDE (int 1 ∷ int 0 ∷ []) ∷ noted "b" 2 ∷ [])) 9
         ≡ noting (watched "a" "1" ∷ []) (fails DivideByZero 4) }
 {}
 

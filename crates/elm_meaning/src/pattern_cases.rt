@@ -25,7 +25,8 @@ pub fn literals_fit_themselves()
 pub fn names_fit_any_value()
     ensures anything { matching Pattern.Anything (int 7) ≡ Some [] }
     ensures name { matching (Pattern.Local 3) (int 7) ≡ Some ((3, int 7) ∷ []) }
-    ensures whole { matching (Pattern.Named (Pattern.Cons (Pattern.Local 3) Pattern.Anything) 5) (list (int 7 ∷ []))
+    ensures whole { matching (Pattern.Named (Pattern.Cons (Pattern.Local 3) Pattern.Anything) 5)
+        (list (int 7 ∷ []))
         ≡ Some ((3, int 7) ∷ (5, list (int 7 ∷ [])) ∷ []) }
     ensures whole_of_none { matching (Pattern.Named Pattern.Nil 5) (list (int 7 ∷ [])) ≡ None }
 {}
@@ -34,7 +35,8 @@ pub fn names_fit_any_value()
 pub fn lists_fit_their_patterns()
     ensures nil { matching Pattern.Nil (list []) ≡ Some [] }
     ensures no_nil { matching Pattern.Nil (list (int 7 ∷ [])) ≡ None }
-    ensures cons { matching (Pattern.Cons (Pattern.Local 3) (Pattern.Local 4)) (list (int 7 ∷ int 8 ∷ []))
+    ensures cons { matching (Pattern.Cons (Pattern.Local 3) (Pattern.Local 4))
+        (list (int 7 ∷ int 8 ∷ []))
         ≡ Some ((3, int 7) ∷ (4, list (int 8 ∷ [])) ∷ []) }
     ensures no_cons { matching (Pattern.Cons (Pattern.Local 3) (Pattern.Local 4)) (list []) ≡ None }
     ensures head { matching (Pattern.Cons (Pattern.Literal (literal.Int (pos 1))) Pattern.Anything)
@@ -46,7 +48,9 @@ pub fn lists_fit_their_patterns()
 
 /// A constructor of this name with as many arguments, each fitted; a tuple of as many parts, each fitted.
 pub fn parts_fit_their_patterns()
-    ensures made { matching (Pattern.Made (codes "P") (patterns_of (Pattern.Local 3 ∷ Pattern.Local 4 ∷ []))) (made "P" (int 7 ∷ int 8 ∷ []))
+    ensures made { matching
+        (Pattern.Made (codes "P") (patterns_of (Pattern.Local 3 ∷ Pattern.Local 4 ∷ [])))
+        (made "P" (int 7 ∷ int 8 ∷ []))
         ≡ Some ((3, int 7) ∷ (4, int 8) ∷ []) }
     ensures other { matching (Pattern.Made (codes "Just") (patterns_of (Pattern.Local 3 ∷ [])))
         (made "Ok" (int 7 ∷ []))
@@ -56,24 +60,33 @@ pub fn parts_fit_their_patterns()
         ≡ None }
     ensures more { matching (Pattern.Made (codes "P") (patterns_of (Pattern.Local 3 ∷ []))) (made "P" [])
         ≡ None }
-    ensures argument { matching (Pattern.Made (codes "Just") (patterns_of (Pattern.Literal (literal.Int (pos 1)) ∷ []))) (made "Just" (int 7 ∷ []))
+    ensures argument { matching
+        (Pattern.Made (codes "Just") (patterns_of (Pattern.Literal (literal.Int (pos 1)) ∷ [])))
+        (made "Just" (int 7 ∷ []))
         ≡ None }
     ensures alone { matching (Pattern.Made (codes "True") (patterns_of [])) (made "True" [])
         ≡ Some [] }
-    ensures tuple { matching (Pattern.Tuple (patterns_of (Pattern.Local 3 ∷ Pattern.Local 4 ∷ []))) (tuple (int 7 ∷ int 8 ∷ []))
+    ensures tuple { matching (Pattern.Tuple (patterns_of (Pattern.Local 3 ∷ Pattern.Local 4 ∷ [])))
+        (tuple (int 7 ∷ int 8 ∷ []))
         ≡ Some ((3, int 7) ∷ (4, int 8) ∷ []) }
-    ensures part { matching (Pattern.Tuple (patterns_of (Pattern.Anything ∷ Pattern.Literal (literal.Int (pos 1)) ∷ []))) (tuple (int 1 ∷ int 8 ∷ []))
+    ensures part { matching
+        (Pattern.Tuple
+        (patterns_of (Pattern.Anything ∷ Pattern.Literal (literal.Int (pos 1)) ∷ [])))
+        (tuple (int 1 ∷ int 8 ∷ []))
         ≡ None }
-    ensures parts { matching (Pattern.Tuple (patterns_of (Pattern.Anything ∷ Pattern.Anything ∷ []))) (tuple (int 7 ∷ int 8 ∷ int 9 ∷ []))
+    ensures parts { matching (Pattern.Tuple (patterns_of (Pattern.Anything ∷ Pattern.Anything ∷ [])))
+        (tuple (int 7 ∷ int 8 ∷ int 9 ∷ []))
         ≡ None }
     ensures kind { matching (Pattern.Tuple (patterns_of [])) Unit ≡ None }
 {}
 
 /// Of each label the newest field; a label that isn't there doesn't fit.
 pub fn labels_fit_the_newest_fields()
-    ensures labels { matching (Pattern.Fields ((codes "y", 3) ∷ (codes "x", 4) ∷ [])) (record_of (("x", int 7) ∷ ("y", int 8) ∷ []))
+    ensures labels { matching (Pattern.Fields ((codes "y", 3) ∷ (codes "x", 4) ∷ []))
+        (record_of (("x", int 7) ∷ ("y", int 8) ∷ []))
         ≡ Some ((3, int 8) ∷ (4, int 7) ∷ []) }
-    ensures newest { matching (Pattern.Fields ((codes "x", 3) ∷ [])) (record_of (("x", int 7) ∷ ("x", int 8) ∷ []))
+    ensures newest { matching (Pattern.Fields ((codes "x", 3) ∷ []))
+        (record_of (("x", int 7) ∷ ("x", int 8) ∷ []))
         ≡ Some ((3, int 7) ∷ []) }
     ensures missing { matching (Pattern.Fields ((codes "z", 3) ∷ [])) (record_of (("x", int 7) ∷ []))
         ≡ None }
@@ -87,7 +100,8 @@ pub fn patterns_have_names()
     ensures literal { names_of (Pattern.Literal literal.Unit) ≡ [] }
     ensures nil { names_of Pattern.Nil ≡ [] }
     ensures cons { names_of (Pattern.Cons (Pattern.Local 3) (Pattern.Local 4)) ≡ 3 ∷ 4 ∷ [] }
-    ensures made { names_of (Pattern.Made (codes "P") (patterns_of (Pattern.Local 3 ∷ Pattern.Local 4 ∷ [])))
+    ensures made { names_of
+        (Pattern.Made (codes "P") (patterns_of (Pattern.Local 3 ∷ Pattern.Local 4 ∷ [])))
         ≡ 3 ∷ 4 ∷ [] }
     ensures tuple { names_of (Pattern.Tuple (patterns_of (Pattern.Local 3 ∷ Pattern.Local 4 ∷ [])))
         ≡ 3 ∷ 4 ∷ [] }

@@ -39,7 +39,8 @@ pub fn records_are_made_of_their_fields()
 /// `{ r | x = e }` puts a field over an old one of its label, after the record is evaluated.
 pub fn fields_are_put_over_others()
     ensures over { run two_fields 0 ≡ gives (record_of (("x", text "a") ∷ ("x", int 1) ∷ [])) }
-    ensures order { run (Extend (noted "r" 1) (field_terms (("y", noted "a" 1) ∷ ("z", noted "b" 2) ∷ []))) 9
+    ensures order { run
+        (Extend (noted "r" 1) (field_terms (("y", noted "a" 1) ∷ ("z", noted "b" 2) ∷ []))) 9
         ≡ noting (watched "r" "1" ∷ watched "a" "1" ∷ watched "b" "2" ∷ []) (no_rule 0) }
     ensures several { run (Extend only_x (field_terms (("a", Done (int 2)) ∷ ("x", Done (int 3)) ∷ []))) 0
         ≡ gives (record_of (("a", int 2) ∷ ("x", int 3) ∷ ("x", int 1) ∷ [])) }
@@ -51,7 +52,10 @@ pub fn the_newest_field_is_updated()
         ≡ gives (record_of (("x", int 2) ∷ [])) }
     ensures hidden { run (Update two_fields (field_terms (("x", Done (int 3)) ∷ []))) 0
         ≡ gives (record_of (("x", int 3) ∷ ("x", int 1) ∷ [])) }
-    ensures several { run (Update (RecordTree (field_terms (("x", Done (int 1)) ∷ ("y", Done (int 2)) ∷ ("z", Done (int 3)) ∷ [])))
+    ensures several { run
+        (Update
+        (RecordTree
+        (field_terms (("x", Done (int 1)) ∷ ("y", Done (int 2)) ∷ ("z", Done (int 3)) ∷ [])))
         (field_terms (("z", noted "a" 4) ∷ ("x", noted "b" 5) ∷ []))) 6
         ≡ noting (watched "a" "4" ∷ watched "b" "5" ∷ [])
         (gives (record_of (("x", int 5) ∷ ("y", int 2) ∷ ("z", int 4) ∷ []))) }
@@ -65,11 +69,17 @@ pub fn the_newest_field_is_updated()
 /// `{ r - x }` takes the newest field away, and `r.x` reads it.
 pub fn the_newest_field_is_read_and_removed()
     ensures read { run (Field two_fields (codes "x")) 0 ≡ gives (text "a") }
-    ensures second { run (Field (RecordTree (field_terms (("x", Done (int 1)) ∷ ("y", Done (int 2)) ∷ []))) (codes "y")) 0
+    ensures second { run
+        (Field (RecordTree (field_terms (("x", Done (int 1)) ∷ ("y", Done (int 2)) ∷ [])))
+        (codes "y")) 0
         ≡ gives (int 2) }
     ensures removed { run (Remove two_fields (codes "x")) 0
         ≡ gives (record_of (("x", int 1) ∷ [])) }
-    ensures between { run (Remove (RecordTree (field_terms (("x", Done (int 1)) ∷ ("y", Done (int 2)) ∷ ("z", Done (int 3)) ∷ []))) (codes "y")) 0
+    ensures between { run
+        (Remove
+        (RecordTree
+        (field_terms (("x", Done (int 1)) ∷ ("y", Done (int 2)) ∷ ("z", Done (int 3)) ∷ [])))
+        (codes "y")) 0
         ≡ gives (record_of (("x", int 1) ∷ ("z", int 3) ∷ [])) }
     ensures no_field { run (Field only_x (codes "y")) 4 ≡ no_rule 4 }
     ensures none_to_remove { run (Remove only_x (codes "y")) 4 ≡ no_rule 4 }

@@ -25,10 +25,13 @@ pub fn signals_add_equations()
     ensures map3 { run_first (call (native MAP3) (native ADD ∷ Input 7 ∷ Input 6 ∷ Input 5 ∷ [])) 4
         ≡ makes 3 (Equation.Input 7 ∷ Equation.Input 6 ∷ Equation.Input 5
         ∷ Equation.Map (native_value ADD) (0 ∷ 1 ∷ 2 ∷ []) ∷ []) }
-    ensures map4 { run_first (call (native MAP4) (native ADD ∷ Input 7 ∷ Input 6 ∷ Input 5 ∷ Input 4 ∷ [])) 5
+    ensures map4 { run_first
+        (call (native MAP4) (native ADD ∷ Input 7 ∷ Input 6 ∷ Input 5 ∷ Input 4 ∷ [])) 5
         ≡ makes 4 (Equation.Input 7 ∷ Equation.Input 6 ∷ Equation.Input 5 ∷ Equation.Input 4
         ∷ Equation.Map (native_value ADD) (0 ∷ 1 ∷ 2 ∷ 3 ∷ []) ∷ []) }
-    ensures map5 { run_first (call (native MAP5) (native ADD ∷ Input 7 ∷ Input 6 ∷ Input 5 ∷ Input 4 ∷ Input 3 ∷ [])) 6
+    ensures map5 { run_first
+        (call (native MAP5) (native ADD ∷ Input 7 ∷ Input 6 ∷ Input 5 ∷ Input 4 ∷ Input 3 ∷ []))
+        6
         ≡ makes 5
         (Equation.Input 7 ∷ Equation.Input 6 ∷ Equation.Input 5 ∷ Equation.Input 4 ∷
         Equation.Input 3
@@ -52,11 +55,13 @@ pub fn signals_add_equations()
 /// A signal that a `let` names is one node however often it is used. A later term goes on from the equations of those
 /// before it.
 pub fn shared_signals_are_one_node()
-    ensures shared { run_first (LetValue (Pattern.Local 0) (Input 3) (call (native MERGE) (Local 0 ∷ Local 0 ∷ []))) 2
+    ensures shared { run_first
+        (LetValue (Pattern.Local 0) (Input 3) (call (native MERGE) (Local 0 ∷ Local 0 ∷ []))) 2
         ≡ makes 1 (Equation.Input 3 ∷ Equation.Merge 0 0 ∷ []) }
     ensures repeated { run_first (call (native MERGE) (Input 3 ∷ Input 3 ∷ [])) 2
         ≡ makes 2 (Equation.Input 3 ∷ Equation.Input 3 ∷ Equation.Merge 0 1 ∷ []) }
-    ensures later { eval [] (Some (Equation.Input 0 ∷ Equation.Input 1 ∷ [])) (Call (native ASYNC) (Done (Signal 1))) 1
+    ensures later { eval [] (Some (Equation.Input 0 ∷ Equation.Input 1 ∷ []))
+        (Call (native ASYNC) (Done (Signal 1))) 1
         ≡ makes 2 (Equation.Input 0 ∷ Equation.Input 1 ∷ Equation.Async 1 ∷ []) }
     ensures short { run_first (Call (native CONSTANT) (Done (int 3))) 0
         ≡ Stops OutOfFuel (begun stage_one 0) }
@@ -79,6 +84,7 @@ pub fn nodes_have_a_limit()
         (begun (Some (replicate 4095 (Equation.Input 0) ++ Equation.Input 1 ∷ [])) 3) }
     ensures input { eval [] (Some (replicate 4096 (Equation.Input 0))) (Input 1) 3
         ≡ Stops TooManyNodes (begun (Some (replicate 4096 (Equation.Input 0))) 3) }
-    ensures native { eval [] (Some (replicate 4096 (Equation.Input 0))) (Call (native CONSTANT) (Done (int 3))) 3
+    ensures native { eval [] (Some (replicate 4096 (Equation.Input 0)))
+        (Call (native CONSTANT) (Done (int 3))) 3
         ≡ Stops TooManyNodes (begun (Some (replicate 4096 (Equation.Input 0))) 2) }
 {}

@@ -11,11 +11,16 @@ ghost use Rattle.elm_meaning.specs.Spelling.{int, made, element};
 /// none beyond.
 pub fn natives_stand_by_number()
     ensures all { length natives ≡ NATIVES }
-    ensures basics { map takes_of (map native_at (0 ∷ 1 ∷ 2 ∷ 3 ∷ 4 ∷ 5 ∷ 6 ∷ 7 ∷ 8 ∷ 9 ∷ 10 ∷ 11 ∷ 12 ∷ 13 ∷ 14 ∷ 15 ∷ []))
+    ensures basics { map takes_of
+        (map native_at
+        (0 ∷ 1 ∷ 2 ∷ 3 ∷ 4 ∷ 5 ∷ 6 ∷ 7 ∷ 8 ∷ 9 ∷ 10 ∷ 11 ∷ 12 ∷ 13 ∷ 14 ∷ 15 ∷ []))
         ≡ 2 ∷ 2 ∷ 2 ∷ 2 ∷ 2 ∷ 2 ∷ 1 ∷ 2 ∷ 2 ∷ 2 ∷ 2 ∷ 2 ∷ 2 ∷ 2 ∷ 2 ∷ 1 ∷ [] }
     ensures texts { map takes_of (map native_at (16 ∷ 17 ∷ 18 ∷ 19 ∷ 20 ∷ 21 ∷ 22 ∷ 23 ∷ 24 ∷ 25 ∷ []))
         ≡ 1 ∷ 1 ∷ 1 ∷ 1 ∷ 1 ∷ 1 ∷ 1 ∷ 2 ∷ 2 ∷ 1 ∷ [] }
-    ensures signals { map takes_of (map native_at (CONSTANT ∷ MAP ∷ MAP2 ∷ MAP3 ∷ MAP4 ∷ MAP5 ∷ FOLDP ∷ MERGE ∷ FILTER ∷ FILTER_MAP ∷ DROP_REPEATS ∷ SAMPLE_ON ∷ ASYNC ∷ []))
+    ensures signals { map takes_of
+        (map native_at
+        (CONSTANT ∷ MAP ∷ MAP2 ∷ MAP3 ∷ MAP4 ∷ MAP5 ∷ FOLDP ∷ MERGE ∷ FILTER ∷ FILTER_MAP ∷
+        DROP_REPEATS ∷ SAMPLE_ON ∷ ASYNC ∷ []))
         ≡ 1 ∷ 2 ∷ 3 ∷ 4 ∷ 5 ∷ 6 ∷ 3 ∷ 2 ∷ 3 ∷ 3 ∷ 1 ∷ 2 ∷ 1 ∷ [] }
     ensures elements { map takes_of (map native_at (39 ∷ 40 ∷ 41 ∷ 42 ∷ 43 ∷ 49 ∷ 50 ∷ 51 ∷ 52 ∷ []))
         ≡ 1 ∷ 0 ∷ 2 ∷ 2 ∷ 0 ∷ 0 ∷ 4 ∷ 1 ∷ 1 ∷ [] }

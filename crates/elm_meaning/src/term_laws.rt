@@ -52,14 +52,16 @@ pub fn terms_stand_form_by_form()
     ensures branches { (a b c : Tree) → tree_of (a ∷ b ∷ c ∷ []) (term.If 0 1 2) ≡ If a b c }
     ensures guards { (a b c : Tree) → tree_of (a ∷ b ∷ c ∷ []) (term.Guards ((0, 1) ∷ (2, 0) ∷ []))
         ≡ guards ((a, b) ∷ (c, a) ∷ []) }
-    ensures case { (a b c : Tree) (p q : TermPattern) → tree_of (a ∷ b ∷ c ∷ []) (term.Case 0 ((p, 1) ∷ (q, 2) ∷ []))
+    ensures case { (a b c : Tree) (p q : TermPattern) → tree_of (a ∷ b ∷ c ∷ [])
+        (term.Case 0 ((p, 1) ∷ (q, 2) ∷ []))
         ≡ case_of a ((pattern_of p, b) ∷ (pattern_of q, c) ∷ []) }
     ensures tuple { (a b : Tree) → tree_of (a ∷ b ∷ []) (term.Tuple (0 ∷ 1 ∷ []))
         ≡ tuple_term (a ∷ b ∷ []) }
     ensures list { (a b : Tree) → tree_of (a ∷ b ∷ []) (term.List (0 ∷ 1 ∷ []))
         ≡ list_term (a ∷ b ∷ []) }
     ensures range { (a b : Tree) → tree_of (a ∷ b ∷ []) (term.Range 0 1) ≡ Range a b }
-    ensures fields { (a b : Tree) → tree_of (a ∷ b ∷ []) (term.Fields ((codes "y", 0) ∷ (codes "x", 1) ∷ []))
+    ensures fields { (a b : Tree) → tree_of (a ∷ b ∷ [])
+        (term.Fields ((codes "y", 0) ∷ (codes "x", 1) ∷ []))
         ≡ RecordTree (field_terms (("y", a) ∷ ("x", b) ∷ [])) }
     ensures update { (a b : Tree) → tree_of (a ∷ b ∷ []) (term.Update 0 ((codes "x", 1) ∷ []))
         ≡ Update a (field_terms (("x", b) ∷ [])) }
