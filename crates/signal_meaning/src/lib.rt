@@ -1,0 +1,15 @@
+//! What a program of signals means over a list of events: stage one, what each node says, what waits for asyncs, how a
+//! run stops and what it notes.
+//! The definitions stand in `specs/`. The functions here have no work to do: their contracts state worked runs and laws
+//! of the definitions.
+#![tactic(auto)]
+
+mod worked_runs;
+
+pub use worked_runs::{
+    a_delivery_may_find_nothing, a_fault_stops_the_run, a_queue_is_first_in_first_out,
+    asyncs_are_numbered_by_themselves, clicks_are_counted, deliveries_come_in_the_order_of_events,
+    filters_keep_what_passes, logs_come_with_changes, notes_come_up_to_the_fault,
+    repeats_are_dropped, samples_inputs_and_constants, the_left_of_a_merge_counts,
+    top_values_have_fuel,
+};
