@@ -54,31 +54,24 @@ values_after [] said = []
 values_after (v ∷ vs) [] = v ∷ vs
 values_after (v ∷ vs) (s ∷ ss) = value_after v s.say ∷ values_after vs ss
 
--- asyncs have numbers of their own, in the order of their nodes
+-- Asyncs have numbers of their own, in the order of their nodes: the inner signals of all asyncs, by these numbers.
+abbrev pub inner_signals : List Equation → List ℕ
+inner_signals [] = []
+inner_signals (Equation.Async input ∷ qs) = input ∷ inner_signals qs
+inner_signals (_ ∷ qs) = inner_signals qs
 
-abbrev pub is_async : Equation → Bool
-is_async (Equation.Async input) = true
-is_async _ = false
+-- how many asyncs stand before node k, which is the number of its own if it is one
+abbrev pub asyncs_before : ℕ → List Equation → ℕ
+asyncs_before zero qs = 0
+asyncs_before (suc k) [] = 0
+asyncs_before (suc k) (Equation.Async input ∷ qs) = suc (asyncs_before k qs)
+asyncs_before (suc k) (_ ∷ qs) = asyncs_before k qs
 
-abbrev pub async_node : ℕ → ℕ → List Equation → Option ℕ
-async_node k number [] = None
-async_node k zero (q ∷ qs) = if is_async q then Some k else async_node (suc k) zero qs
-async_node k (suc number) (q ∷ qs) = if is_async q then async_node (suc k) number qs else async_node (suc k) (suc number) qs
+abbrev pub delivers : Event → ℕ → Bool
+delivers (Taken input v) async = false
+delivers (Delivered number) async = number == async
 
--- the node of the async with a number, where there is one
-abbrev pub node_of_async : Network → ℕ → Option ℕ
-node_of_async net number = async_node 0 number net.equations
-
-abbrev pub is_node : Option ℕ → ℕ → Bool
-is_node None k = false
-is_node (Some n) k = n == k
-
--- whether the event delivers the async of this node
-abbrev pub delivers : Network → Event → ℕ → Bool
-delivers net (Taken input v) k = false
-delivers net (Delivered async) k = is_node (node_of_async net async) k
-
--- What the nodes have said at the last event, their values, and for the node of an async the changes of its inner signal
+-- What the nodes have said at the last event, their values, and for the async of a number the changes of its inner signal
 -- since event 0 and how many of these were delivered.
 pub record Moment : Type 0 where
   pub said : List Said
@@ -86,18 +79,21 @@ pub record Moment : Type 0 where
   pub made : ℕ → List Value
   pub gone : ℕ → ℕ
 
--- the changes that wait for the async of a node, the oldest first
+-- the changes that wait for the async of a number, the oldest first
 abbrev pub waiting : Moment → ℕ → List Value
-waiting m k = drop (m.gone k) (m.made k)
+waiting m async = drop (m.gone async) (m.made async)
 
 abbrev pub first_of : List Value → Option Value
 first_of [] = None
 first_of (v ∷ vs) = Some v
 
--- the oldest change that waits, where the event delivers it
-abbrev pub delivered_to : Bool → List Value → Option Value
-delivered_to true waits = first_of waits
-delivered_to false waits = None
+abbrev pub first_where : Bool → List Value → Option Value
+first_where true waits = first_of waits
+first_where false waits = None
+
+-- what an event delivers to the async of a number: the oldest change that waits
+abbrev pub delivered : Event → Moment → ℕ → Option Value
+delivered e m async = first_where (delivers e async) (waiting m async)
 
 -- one change more is gone where a delivery meets one that waits
 abbrev pub one_where : Option Value → ℕ
@@ -109,24 +105,24 @@ new_value (Change v) = v ∷ []
 new_value _ = []
 
 -- the change of an async's inner signal
-abbrev pub inner_change : List Said → Option Equation → List Value
-inner_change said (Some (Equation.Async input)) = new_value (say_at said input)
-inner_change said _ = []
+abbrev pub inner_change : List Said → Option ℕ → List Value
+inner_change said None = []
+inner_change said (Some input) = new_value (say_at said input)
 
 abbrev pub later_rule : Network → Event → Moment → Rule
 later_rule net e m below k q =
     answers net e (value_of m.values below) (changes below) (slice_index_or m.values k no_value)
-    (delivered_to (delivers net e k) (waiting m k)) q
+    (delivered e m (asyncs_before k net.equations)) q
 
 abbrev pub first_moment : Network → List Said → Moment
-first_moment net said = record { said = said; values = values_after (no_values net) said; made = λ k. []; gone = λ k. 0 }
+first_moment net said = record { said = said; values = values_after (no_values net) said; made = λ async. []; gone = λ async. 0 }
 
 abbrev pub next_moment : Network → Event → Moment → List Said → Moment
 next_moment net e m said = record {
   said = said;
   values = values_after m.values said;
-  made = λ k. m.made k ++ inner_change said (slice_get net.equations k);
-  gone = λ k. m.gone k + one_where (delivered_to (delivers net e k) (waiting m k));
+  made = λ async. m.made async ++ inner_change said (slice_get (inner_signals net.equations) async);
+  gone = λ async. m.gone async + one_where (delivered e m async);
 }
 
 abbrev pub after_event : Network → Event → Moment → Moment
@@ -150,12 +146,8 @@ changed net (e ∷ es) k = is_change (say net (e ∷ es) k)
 
 -- the changes of the inner signal of the async with a number after event 0, and those that wait
 
-abbrev pub at_node : {A : Type 0} → (ℕ → List A) → Option ℕ → List A
-at_node lists None = []
-at_node lists (Some k) = lists k
-
 abbrev pub made : Network → List Event → ℕ → List Value
-made net past number = at_node (moment net past).made (node_of_async net number)
+made net past async = (moment net past).made async
 
 abbrev pub pending : Network → List Event → ℕ → List Value
-pending net past number = at_node (waiting (moment net past)) (node_of_async net number)
+pending net past async = waiting (moment net past) async

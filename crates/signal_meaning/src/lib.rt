@@ -4,8 +4,14 @@
 //! of the definitions.
 #![tactic(auto)]
 
+mod signal_laws;
 mod worked_runs;
 
+pub use signal_laws::{
+    a_node_answers_by_its_inputs, a_node_begins_by_its_inputs, a_running_run_is_good,
+    a_stopped_run_stays, asyncs_keep_the_changes_of_their_signals, top_values_begin_in_turn,
+    values_are_those_last_said,
+};
 pub use worked_runs::{
     a_delivery_may_find_nothing, a_fault_stops_the_run, a_queue_is_first_in_first_out,
     asyncs_are_numbered_by_themselves, clicks_are_counted, deliveries_come_in_the_order_of_events,
