@@ -4,6 +4,3 @@
 mod log;
 
 pub use log::{AsyncLog, LogMark};
-
-#[cfg(test)]
-mod tests;

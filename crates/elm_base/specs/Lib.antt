@@ -1,1 +1,4 @@
 pub mod Lexemes
+pub mod Letters
+pub mod Quoted
+pub mod Spaces

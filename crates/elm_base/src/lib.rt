@@ -9,6 +9,7 @@ mod memory;
 mod name;
 pub mod native;
 mod project;
+mod spaces;
 mod steps;
 mod term;
 mod token;
@@ -24,6 +25,7 @@ pub use project::{
     AliasOf, Decls, Group, Meaning, PortOf, Program, Project, Resolved, Thing, Typed, UnionOf,
     Warning,
 };
+pub use spaces::{trim_end, trim_start, without_last};
 pub use steps::Steps;
 pub use term::{Code, Literal, Note, NoteKind, Notes, RunFault, Term, TermPattern, TopValue};
 pub use token::{At, Token, TokenKind};
@@ -34,6 +36,3 @@ pub use tree::{
 
 /// A value's place in an arena of values: values that were made later have greater places.
 pub type Ref = u32;
-
-#[cfg(test)]
-mod tests;

@@ -1,8 +1,6 @@
-pub mod Script
 pub mod Literal
 pub mod Program
 pub mod Frame
 pub mod Command
-pub mod Texts
 pub mod Transcript
 pub mod Laws

@@ -1,11 +1,14 @@
 -- What is written for a whole script.
 use Rattle.std.specs.Prelude.{ℕ, List, [], ◌∷◌, ◌++◌, drop, Option, None}
+use Rattle.script_lines.specs.declared.line.Line.{Line}
+use Rattle.script_lines.specs.Reading.{readings, whole_readings}
+use Rattle.frame_text.specs.Refusals.{refusal_line}
 use Rattle.reactor_outside.specs.Shelf.{Files}
-use Rattle.reactor_meaning.specs.Script.{ScriptLine, lines, read_line}
+use Rattle.reactor_meaning.specs.declared.answer.Answer.{Answer}
+use Rattle.reactor_meaning.specs.declared.answer.Answer.TheVariants.{Shown, Refused}
 use Rattle.reactor_meaning.specs.Program.{Program}
 use Rattle.reactor_meaning.specs.Frame.{frame}
-use Rattle.reactor_meaning.specs.Command.{State, Failure, Answer, Shown, Refused, Step, begun, next_line}
-use Rattle.reactor_meaning.specs.Texts.{refusal_line}
+use Rattle.reactor_meaning.specs.Command.{State, Failure, begun, next_line}
 
 -- the frame of a state
 abbrev pub frame_of : State → List ℕ
@@ -21,19 +24,25 @@ abbrev pub first_failure : List (Option Failure) → Option Failure
 first_failure [] = None
 first_failure (failure ∷ more) = failure
 
--- the step of a line
-abbrev pub step_of_line : State → ScriptLine → Option Failure → Step
-step_of_line state line failure = next_line state (read_line line) failure
-
 -- The answers to lines in order, each by the state that the lines before it left.
-abbrev pub answers : State → List ScriptLine → List (Option Failure) → List ℕ
+abbrev pub answers : State → List Line → List (Option Failure) → List ℕ
 answers state [] failures = []
 answers state (line ∷ more) failures =
-    let step = step_of_line state line (first_failure failures) in
+    let step = next_line state line (first_failure failures) in
     answer_text step.state step.answer ++ answers step.state more (drop 1 failures)
+
+-- the state that lines leave, where no call on the shelf fails
+abbrev pub state_after : State → List Line → State
+state_after state [] = state
+state_after state (line ∷ more) = state_after (next_line state line None).state more
 
 -- The transcript of a session: the first frame, and then each line's answer in order. The pieces in which a script
 -- comes are no part of it.
 abbrev pub transcript : Program → Files → List ℕ → List (Option Failure) → List ℕ
 transcript program files script failures =
-    frame_of (begun program files) ++ answers (begun program files) (lines script) failures
+    frame_of (begun program files) ++ answers (begun program files) (readings script) failures
+
+-- What is written for a script so far, where no call on the shelf fails: the answers to the lines that a newline ended.
+abbrev pub written_so_far : Program → Files → List ℕ → List ℕ
+written_so_far program files script =
+    frame_of (begun program files) ++ answers (begun program files) (whole_readings script) []

@@ -1,18 +1,13 @@
-//! The definitions that the crates of the debugger cite: the lines of a script, what a program shows, the step of a
-//! command, the frame and the transcript. They stand in `specs/`; what stands here are laws about them.
+//! The definitions that the crates of the debugger cite: what a program shows, the step of a command, the frame and the
+//! transcript. They stand in `specs/`; what stands here are the type of answers, and laws.
 #![tactic(auto)]
 
-ghost use Rattle.reactor_meaning.specs.Laws.{LinesJoin, LongLinesAlike, RefusalsChangeNothing, UnknownInputsComeFirst, FramesShowTheCursor};
+ghost use Rattle.reactor_meaning.specs.Laws.{RefusalsChangeNothing, UnknownInputsComeFirst};
+ghost use Rattle.reactor_meaning.specs.Laws.{FramesShowTheCursor, AnswersInTurn};
 
-/// Cutting a script into lines loses nothing: its lines, each with its newline if it had one, are the script.
-pub fn lines_join()
-    ensures { LinesJoin }
-{}
+mod answer;
 
-/// Of a line without a newline so far that is too long, the bytes past the first 65,537 change no answer.
-pub fn long_lines_alike()
-    ensures { LongLinesAlike }
-{}
+pub use answer::Answer;
 
 /// A refused line leaves the state as it was.
 pub fn refusals_change_nothing()
@@ -27,4 +22,9 @@ pub fn unknown_inputs_come_first()
 /// A frame shows what stands before its cursor: of the events behind it only their number counts.
 pub fn frames_show_the_cursor()
     ensures { FramesShowTheCursor }
+{}
+
+/// The answers to a script are those to its first lines, and then those to the others from the state between.
+pub fn answers_come_in_turn()
+    ensures { AnswersInTurn }
 {}

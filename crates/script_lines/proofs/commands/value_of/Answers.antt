@@ -1,0 +1,5 @@
+use Rattle.script_lines.proofs.Numbers.{digits_utf8}
+use Rattle.script_lines.proofs.commands.value_of.Goals as goal
+
+pub returns-in-Err : goal.returns-in-Err
+returns-in-Err c = absurd (c.in-Err.ensures.cases.0 (digits_utf8 c.args.digits.now c.requires.all))
