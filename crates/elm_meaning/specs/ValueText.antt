@@ -1,21 +1,9 @@
 -- The text of a value, as `toString` gives it.
-use Rattle.std.specs.Prelude.{ℕ, Bool, true, false, if◌then◌else◌, ◌==◌, List, [], ◌∷◌, ◌++◌, codes, encode_utf8}
-use Rattle.std.specs.List.{flat_map}
+use Rattle.std.specs.Prelude.{ℕ, Bool, true, false, if◌then◌else◌, List, [], ◌∷◌, ◌++◌, codes, encode_utf8}
 use Rattle.std.specs.Str.{bytes_eq}
 use Rattle.std.specs.Fmt.{signed_decimal}
+use Rattle.elm_base.specs.Quoted.{quoted}
 use Rattle.elm_meaning.specs.Values.{Value, Values, Fields, Int, Char, Text, Unit, Nil, Cons, Tuple, Made, Record, Applicable, Cells, Signal, NoValues, AndValue, NoFields, AndField}
-
--- a byte, with a backslash before the quote and backslashes, and newlines, tabs and carriage returns as letters
-abbrev pub escaped : ℕ → ℕ → List ℕ
-escaped quote b =
-    if b == quote then 92 ∷ quote ∷ []
-    else (if b == 92 then codes "\\\\"
-    else (if b == 10 then codes "\\n"
-    else (if b == 9 then codes "\\t"
-    else (if b == 13 then codes "\\r" else b ∷ []))))
-
-abbrev pub quoted : ℕ → List ℕ → List ℕ
-quoted quote bytes = quote ∷ flat_map (escaped quote) bytes ++ quote ∷ []
 
 -- a constructor with arguments stands in brackets where it is an argument
 abbrev pub takes_brackets : Value → Bool
