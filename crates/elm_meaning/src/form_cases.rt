@@ -1,14 +1,13 @@
 //! Worked cases of branches, `let`, lists, tuples and ranges. The bodies are empty: what is stated holds of the
 //! definitions by computation.
 
-ghost use Rattle.std.specs.Prelude.{◌≡◌, true, false, [], ◌∷◌, pos};
+ghost use Rattle.std.specs.Prelude.{◌≡◌, true, false, [], ◌∷◌};
 ghost use Rattle.elm_base.specs.declared.native.TheConstants.{SUBTRACT, EQUAL, DIVIDE};
-ghost use Rattle.elm_base.specs.declared.term.Literal.TheVariants as literal;
 ghost use Rattle.elm_base.specs.declared.term.RunFault.TheVariants.{NoMatch, NoBranch, DivideByZero};
 ghost use Rattle.elm_meaning.specs.Answers.{truth};
 ghost use Rattle.elm_meaning.specs.Patterns.{Pattern, patterns_of};
 ghost use Rattle.elm_meaning.specs.Values.{Done, Local, Lambda, Call, If, LetValue, LetFunctions, Range, NoTree};
-ghost use Rattle.elm_meaning.specs.Spelling.{int, minus, text, list, tuple, made, native, native_of, call, noted, watch, watched, tuple_term, list_term, guards, case_of, functions, run, leaves, gives, fails, out_of_fuel, no_rule, noting};
+ghost use Rattle.elm_meaning.specs.Spelling.{int, minus, text, list, tuple, made, native, native_of, call, exactly, noted, watch, watched, tuple_term, list_term, guards, case_of, functions, run, leaves, gives, fails, out_of_fuel, no_rule, noting};
 
 /// The condition first, and of the branches one alone.
 pub fn one_branch_is_evaluated()
@@ -30,8 +29,8 @@ pub fn the_first_true_condition_is_taken()
     ensures order { run
         (guards
         ((watch "a" (Done (truth false)), noted "b" 1) ∷
-        (watch "c" (Done (truth true)), noted "d" 2)
-        ∷ (watch "e" (Done (truth true)), noted "f" 3) ∷ [])) 16
+        (watch "c" (Done (truth true)), noted "d" 2) ∷
+        (watch "e" (Done (truth true)), noted "f" 3) ∷ [])) 16
         ≡ noting (watched "a" "False" ∷ watched "c" "True" ∷ watched "d" "2" ∷ []) (gives (int 2)) }
     ensures none { run (guards ((Done (truth false), Done (int 1)) ∷ [])) 5 ≡ fails NoBranch 5 }
     ensures no_condition { run (guards ((Done (int 1), Done (int 1)) ∷ [])) 5 ≡ no_rule 5 }
@@ -39,21 +38,25 @@ pub fn the_first_true_condition_is_taken()
 
 /// The scrutinee once, then the branches in order, until one fits. A branch's names hide others.
 pub fn the_first_branch_that_fits_is_taken()
-    ensures order { run (case_of (noted "s" 7) ((Pattern.Literal (literal.Int (pos 1)), noted "a" 1)
-        ∷ (Pattern.Local 0, noted "b" 2) ∷ (Pattern.Anything, noted "c" 3) ∷ [])) 6
+    ensures order { run
+        (case_of (noted "s" 7)
+        ((exactly 1, noted "a" 1) ∷ (Pattern.Local 0, noted "b" 2) ∷
+        (Pattern.Anything, noted "c" 3) ∷ [])) 6
         ≡ noting (watched "s" "7" ∷ watched "b" "2" ∷ []) (gives (int 2)) }
     ensures bound { run
-        (case_of (list_term (Done (int 7) ∷ Done (int 8) ∷ [])) ((Pattern.Nil, Done (int 1))
-        ∷ (Pattern.Cons (Pattern.Local 3) (Pattern.Local 4), Local 4) ∷ [])) 0
+        (case_of (list_term (Done (int 7) ∷ Done (int 8) ∷ []))
+        ((Pattern.Nil, Done (int 1)) ∷
+        (Pattern.Cons (Pattern.Local 3) (Pattern.Local 4), Local 4) ∷ [])) 0
         ≡ gives (list (int 8 ∷ [])) }
-    ensures hides { run (LetValue (Pattern.Local 0) (Done (int 1))
+    ensures hides { run
+        (LetValue (Pattern.Local 0) (Done (int 1))
         (case_of (Done (int 2)) ((Pattern.Local 0, Local 0) ∷ []))) 0
         ≡ gives (int 2) }
-    ensures outer { run (LetValue (Pattern.Local 0) (Done (int 1))
+    ensures outer { run
+        (LetValue (Pattern.Local 0) (Done (int 1))
         (case_of (Done (int 2)) ((Pattern.Local 1, Local 0) ∷ []))) 0
         ≡ gives (int 1) }
-    ensures none { run
-        (case_of (Done (int 3)) ((Pattern.Literal (literal.Int (pos 1)), Done (int 1)) ∷ [])) 5
+    ensures none { run (case_of (Done (int 3)) ((exactly 1, Done (int 1)) ∷ [])) 5
         ≡ fails NoMatch 5 }
     ensures fault { run
         (case_of (native_of DIVIDE (int 1 ∷ int 0 ∷ []))
@@ -72,40 +75,46 @@ pub fn values_are_named()
         (LetValue (Pattern.Local 0) (Done (int 1))
         (LetValue (Pattern.Local 0) (Done (int 2)) (Local 0))) 0
         ≡ gives (int 2) }
-    ensures outside { run (LetValue (Pattern.Local 0) (Done (int 1))
+    ensures outside { run
+        (LetValue (Pattern.Local 0) (Done (int 1))
         (LetValue (Pattern.Local 0) (tuple_term (Local 0 ∷ [])) (Local 0))) 0
         ≡ gives (tuple (int 1 ∷ [])) }
-    ensures parts { run (LetValue (Pattern.Tuple (patterns_of (Pattern.Local 1 ∷ Pattern.Local 2 ∷ [])))
+    ensures parts { run
+        (LetValue (Pattern.Tuple (patterns_of (Pattern.Local 1 ∷ Pattern.Local 2 ∷ [])))
         (tuple_term (Done (int 7) ∷ Done (int 8) ∷ [])) (Local 2)) 0
         ≡ gives (int 8) }
-    ensures no_match { run (LetValue (Pattern.Literal (literal.Int (pos 5))) (Done (int 1)) (Done (int 1))) 4
+    ensures no_match { run (LetValue (exactly 5) (Done (int 1)) (Done (int 1))) 4
         ≡ fails NoMatch 4 }
 {}
 
 /// The functions of a group call each other and themselves. Their names hide others, a parameter hides them, and they
 /// keep the values of names outside.
 pub fn groups_call_each_other()
-    ensures even { run (LetFunctions (functions
+    ensures even { run
+        (LetFunctions
+        (functions
         ((
           0,
           Pattern.Local 2,
-          If (call (native EQUAL) (Local 2 ∷ Done (int 0) ∷ [])) (Done (truth true))
+          If (call (native EQUAL) (Local 2 ∷ Done (int 0) ∷ []))
+              (Done (truth true))
               (Call (Local 1) (call (native SUBTRACT) (Local 2 ∷ Done (int 1) ∷ []))),
-        )
-        ∷ (
+        ) ∷ (
           1,
           Pattern.Local 3,
-          If (call (native EQUAL) (Local 3 ∷ Done (int 0) ∷ [])) (Done (truth false))
+          If (call (native EQUAL) (Local 3 ∷ Done (int 0) ∷ []))
+              (Done (truth false))
               (Call (Local 0) (call (native SUBTRACT) (Local 3 ∷ Done (int 1) ∷ []))),
-        )
-        ∷ [])) (Call (Local 0) (Done (int 2)))) 16
+        ) ∷ []))
+        (Call (Local 0) (Done (int 2)))) 16
         ≡ gives (truth true) }
     ensures second { run
         (LetFunctions
         (functions ((0, Pattern.Anything, Done (int 7)) ∷ (1, Pattern.Local 3, Local 3) ∷ []))
         (Call (Local 1) (Done (int 5)))) 1
         ≡ gives (int 5) }
-    ensures hides { run (LetValue (Pattern.Local 0) (Done (int 1))
+    ensures hides { run
+        (LetValue (Pattern.Local 0) (Done (int 1))
         (LetFunctions (functions ((0, Pattern.Anything, Done (int 7)) ∷ []))
         (Call (Local 0) (Done (int 5))))) 1
         ≡ gives (int 7) }
@@ -113,20 +122,22 @@ pub fn groups_call_each_other()
         (LetFunctions (functions ((0, Pattern.Local 0, Local 0) ∷ []))
         (Call (Local 0) (Done (int 5)))) 1
         ≡ gives (int 5) }
-    ensures outer { run (LetValue (Pattern.Local 4) (Done (int 1))
+    ensures outer { run
+        (LetValue (Pattern.Local 4) (Done (int 1))
         (LetFunctions (functions ((0, Pattern.Anything, Local 4) ∷ []))
         (Call (Local 0) (Done (int 5))))) 1
         ≡ gives (int 1) }
-    ensures outer_hidden { run (LetValue (Pattern.Local 4) (Done (int 1))
+    ensures outer_hidden { run
+        (LetValue (Pattern.Local 4) (Done (int 1))
         (LetFunctions (functions ((0, Pattern.Local 4, Local 4) ∷ []))
         (Call (Local 0) (Done (int 5))))) 1
         ≡ gives (int 5) }
-    ensures body_keeps { run (LetValue (Pattern.Local 4) (Done (int 1))
+    ensures body_keeps { run
+        (LetValue (Pattern.Local 4) (Done (int 1))
         (LetFunctions (functions ((0, Pattern.Anything, Done (int 7)) ∷ [])) (Local 4))) 0
         ≡ gives (int 1) }
     ensures no_match { run
-        (LetFunctions
-        (functions ((0, Pattern.Literal (literal.Int (pos 1)), Done (int 7)) ∷ []))
+        (LetFunctions (functions ((0, exactly 1, Done (int 7)) ∷ []))
         (Call (Local 0) (Done (int 5)))) 4
         ≡ fails NoMatch 3 }
     ensures free { run (LetFunctions (functions []) (Done (int 1))) 0 ≡ gives (int 1) }

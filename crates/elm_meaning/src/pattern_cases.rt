@@ -1,17 +1,17 @@
 //! Worked cases of patterns: which values each form fits, and what its names stand for then. The bodies are empty: what
 //! is stated holds of the definitions by computation.
 
-ghost use Rattle.std.specs.Prelude.{◌≡◌, Some, None, [], ◌∷◌, codes, pos};
+ghost use Rattle.std.specs.Prelude.{◌≡◌, Some, None, [], ◌∷◌, codes};
 ghost use Rattle.elm_base.specs.declared.term.Literal.TheVariants as literal;
 ghost use Rattle.elm_meaning.specs.Patterns.{Pattern, patterns_of};
 ghost use Rattle.elm_meaning.specs.Values.{Unit};
 ghost use Rattle.elm_meaning.specs.Matching.{matching, names_of};
-ghost use Rattle.elm_meaning.specs.Spelling.{int, minus, char, text, list, tuple, made, record_of, bytes};
+ghost use Rattle.elm_meaning.specs.Spelling.{int, minus, char, text, list, tuple, made, record_of, bytes, exactly};
 
 /// Each literal fits itself alone.
 pub fn literals_fit_themselves()
-    ensures int { matching (Pattern.Literal (literal.Int (pos 7))) (int 7) ≡ Some [] }
-    ensures other_int { matching (Pattern.Literal (literal.Int (pos 7))) (minus 7) ≡ None }
+    ensures int { matching (exactly 7) (int 7) ≡ Some [] }
+    ensures other_int { matching (exactly 7) (minus 7) ≡ None }
     ensures char { matching (Pattern.Literal (literal.Char 97)) (char "a") ≡ Some [] }
     ensures other_char { matching (Pattern.Literal (literal.Char 97)) (char "b") ≡ None }
     ensures code { matching (Pattern.Literal (literal.Char 97)) (int 97) ≡ None }
@@ -39,9 +39,7 @@ pub fn lists_fit_their_patterns()
         (list (int 7 ∷ int 8 ∷ []))
         ≡ Some ((3, int 7) ∷ (4, list (int 8 ∷ [])) ∷ []) }
     ensures no_cons { matching (Pattern.Cons (Pattern.Local 3) (Pattern.Local 4)) (list []) ≡ None }
-    ensures head { matching (Pattern.Cons (Pattern.Literal (literal.Int (pos 1))) Pattern.Anything)
-        (list (int 7 ∷ []))
-        ≡ None }
+    ensures head { matching (Pattern.Cons (exactly 1) Pattern.Anything) (list (int 7 ∷ [])) ≡ None }
     ensures tail { matching (Pattern.Cons Pattern.Anything Pattern.Nil) (list (int 7 ∷ int 8 ∷ []))
         ≡ None }
 {}
@@ -60,8 +58,7 @@ pub fn parts_fit_their_patterns()
         ≡ None }
     ensures more { matching (Pattern.Made (codes "P") (patterns_of (Pattern.Local 3 ∷ []))) (made "P" [])
         ≡ None }
-    ensures argument { matching
-        (Pattern.Made (codes "Just") (patterns_of (Pattern.Literal (literal.Int (pos 1)) ∷ [])))
+    ensures argument { matching (Pattern.Made (codes "Just") (patterns_of (exactly 1 ∷ [])))
         (made "Just" (int 7 ∷ []))
         ≡ None }
     ensures alone { matching (Pattern.Made (codes "True") (patterns_of [])) (made "True" [])
@@ -69,9 +66,7 @@ pub fn parts_fit_their_patterns()
     ensures tuple { matching (Pattern.Tuple (patterns_of (Pattern.Local 3 ∷ Pattern.Local 4 ∷ [])))
         (tuple (int 7 ∷ int 8 ∷ []))
         ≡ Some ((3, int 7) ∷ (4, int 8) ∷ []) }
-    ensures part { matching
-        (Pattern.Tuple
-        (patterns_of (Pattern.Anything ∷ Pattern.Literal (literal.Int (pos 1)) ∷ [])))
+    ensures part { matching (Pattern.Tuple (patterns_of (Pattern.Anything ∷ exactly 1 ∷ [])))
         (tuple (int 1 ∷ int 8 ∷ []))
         ≡ None }
     ensures parts { matching (Pattern.Tuple (patterns_of (Pattern.Anything ∷ Pattern.Anything ∷ [])))

@@ -5,17 +5,10 @@ use Rattle.elm_base.specs.declared.native.TheConstants.{ADD, SUBTRACT, MULTIPLY,
 use Rattle.elm_meaning.specs.Patterns.{Pattern, patterns_of}
 use Rattle.elm_meaning.specs.Values.{Value, Unit, Tree, Done, Local, Top, Input, Lambda, Call, If}
 use Rattle.elm_meaning.specs.Answers.{truth}
-use Rattle.elm_meaning.specs.Spelling.{int, text, tuple, made, record_of, native, maker, call, watch, tuple_term}
+use Rattle.elm_meaning.specs.Spelling.{int, text, tuple, made, record_of, native, maker, call, of_one, of_two, watch, tuple_term}
 use Rattle.elm_meaning.specs.Examples.{show}
 use Rattle.signal_meaning.specs.Events.{Event, Taken, Delivered}
 use Rattle.signal_meaning.specs.StageOne.{Start}
-
--- \n -> e, in which n is name 0, and \a b -> e, in which they are names 0 and 1
-abbrev pub of_one : Tree → Tree
-of_one e = Lambda (Pattern.Local 0) e
-
-abbrev pub of_two : Tree → Tree
-of_two e = Lambda (Pattern.Local 0) (Lambda (Pattern.Local 1) e)
 
 abbrev pub number : ℕ → Tree
 number n = Done (int n)
