@@ -1,5 +1,5 @@
 -- How worked cases spell types.
-use Rattle.std.specs.Prelude.{ℕ, Option, Some, None, List, [], ◌∷◌, codes}
+use Rattle.std.specs.Prelude.{ℕ, Option, None, List, [], ◌∷◌, codes}
 use Prim.Native.String.{String}
 use Rattle.elm_typing.specs.Ground.{Ground, Grounds, Row, Named, Tuple, Record, NoGrounds, AndGround, Ends, Field}
 use Rattle.elm_typing.specs.Names.{int_name, char_name, string_name}

@@ -1,16 +1,15 @@
 -- Each node speaks by what the nodes say in the end, since those that it looks at have smaller numbers.
-use Rattle.std.proofs.Common.{◌≡◌, ℕ, zero, suc, ◌+◌, ◌<◌, Bool, true, false, Option, Some, None, List, [], ◌∷◌, ◌++◌, length, map, take, refl, sym, ap, ap₂, ◌∙◌, arith, append_assoc, append-nil, subst}
+use Rattle.std.proofs.Common.{◌≡◌, ℕ, zero, suc, ◌+◌, ◌<◌, Bool, Option, Some, None, List, [], ◌∷◌, ◌++◌, length, map, refl, sym, ap, ap₂, ◌∙◌, arith, append_assoc, append-nil, subst}
 use Rattle.std.specs.Prelude.{slice_get, slice_index_or, replicate, if◌then◌else◌, ◌||◌}
 use Rattle.std.specs.List.{list_any}
-use Rattle.elm_meaning.specs.declared.compared.Compared.{Compared}
 use Rattle.elm_meaning.specs.declared.compared.Comparison.TheVariants.{Equality}
 use Rattle.elm_meaning.specs.Values.{Value, no_value}
 use Rattle.elm_meaning.specs.PairsVisited.{compared}
 use Rattle.elm_meaning.specs.Equations.{Equation}
 use Rattle.signal_meaning.specs.Events.{Event}
 use Rattle.signal_meaning.specs.StageOne.{Network}
-use Rattle.signal_meaning.specs.Nodes.{Say, Same, Change, Stop, Said, silent, calls, if_held, if_just, unless_equal, begins, where_changed, brought, answers}
-use Rattle.signal_meaning.specs.Moments.{Rule, say_of, say_at, is_change, value_after, value_of, changes, speak, all_say, no_values, first_rule, later_rule, values_after, Moment, moment, say, value, changed, delivered, asyncs_before}
+use Rattle.signal_meaning.specs.Nodes.{Same, Change, Said, silent, calls, if_held, if_just, unless_equal, begins, where_changed, answers}
+use Rattle.signal_meaning.specs.Moments.{Rule, say_of, say_at, is_change, value_after, value_of, changes, speak, all_say, no_values, first_rule, later_rule, values_after, moment, say, value, changed, delivered, asyncs_before}
 use Rattle.signal_meaning.specs.Order.{inputs_of, AllBelow, IsOrdered}
 
 -- what is said behind what was said before

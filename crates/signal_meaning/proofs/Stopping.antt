@@ -1,13 +1,12 @@
 -- Runs that are stopped stay so, and stage one goes on from the top values before.
-use Rattle.std.proofs.Common.{◌≡◌, ℕ, Option, Some, None, List, [], ◌∷◌, ◌++◌, length, refl, sym, ap, ◌∙◌, append_assoc}
-use Rattle.elm_meaning.specs.Values.{Value, Tree}
-use Rattle.elm_meaning.specs.Progress.{State, Ending, Returns, Stops}
+use Rattle.std.proofs.Common.{◌≡◌, ℕ, Some, None, List, [], ◌∷◌, ◌++◌, length, refl, sym, ap, ◌∙◌}
+use Rattle.elm_meaning.specs.Values.{Tree}
+use Rattle.elm_meaning.specs.Progress.{Ending, Returns, Stops}
 use Rattle.elm_meaning.specs.Evaluation.{eval}
-use Rattle.elm_base.specs.declared.term.Note.{Note}
 use Rattle.signal_meaning.specs.Events.{Event}
-use Rattle.signal_meaning.specs.StageOne.{Start, Cause, Begun, network, with_value, stopped_in, then_begin, begin_all}
+use Rattle.signal_meaning.specs.StageOne.{Start, Cause, Begun, network, with_value, then_begin, begin_all}
 use Rattle.signal_meaning.specs.Moments.{moment}
-use Rattle.signal_meaning.specs.Outcomes.{Run, Running, Stopped, Place, by_nodes, or_then, run, if_running, good}
+use Rattle.signal_meaning.specs.Outcomes.{Running, Stopped, Place, by_nodes, or_then, run, if_running, good}
 use Rattle.signal_meaning.specs.NoteTable.{node_notes, event_notes}
 
 pub run_stays : (start : Start) (e : Event) (es : List Event) (event : ℕ) (place : Place) (cause : Cause) → run start es ≡ Stopped event place cause → run start (e ∷ es) ≡ Stopped event place cause

@@ -1,10 +1,10 @@
 -- What the nodes say and are after a list of events. A past is such a list, the newest event first.
-use Rattle.std.specs.Prelude.{ℕ, zero, suc, ◌+◌, Bool, true, false, ◌==◌, if◌then◌else◌, Option, Some, None, List, [], ◌∷◌, ◌++◌, length, drop, replicate, slice_get, slice_index_or}
+use Rattle.std.specs.Prelude.{ℕ, zero, suc, ◌+◌, Bool, true, false, ◌==◌, Option, Some, None, List, [], ◌∷◌, ◌++◌, length, drop, replicate, slice_get, slice_index_or}
 use Rattle.elm_meaning.specs.Values.{Value, no_value}
 use Rattle.elm_meaning.specs.Equations.{Equation}
 use Rattle.signal_meaning.specs.Events.{Event, Taken, Delivered}
 use Rattle.signal_meaning.specs.StageOne.{Network}
-use Rattle.signal_meaning.specs.Nodes.{Say, Same, Change, Stop, Said, silent, begins, answers}
+use Rattle.signal_meaning.specs.Nodes.{Say, Same, Change, Said, begins, answers}
 
 -- a number that hasn't spoken says nothing new
 abbrev pub say_of : Option Said → Say

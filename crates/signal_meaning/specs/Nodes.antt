@@ -4,14 +4,13 @@ use Rattle.std.specs.List.{list_any}
 use Rattle.std.specs.Str.{bytes_eq}
 use Rattle.elm_base.specs.declared.term.Note.{Note}
 use Rattle.elm_base.specs.declared.term.RunFault.TheVariants as fault
-use Rattle.elm_meaning.specs.declared.compared.Compared.{Compared}
 use Rattle.elm_meaning.specs.declared.compared.Comparison.TheVariants.{Equality}
 use Rattle.elm_meaning.specs.declared.compared.Outcome.{Outcome}
 use Rattle.elm_meaning.specs.declared.compared.Outcome.TheVariants.{Equal, Different, FunctionMet, OutOfFuel}
 use Rattle.elm_meaning.specs.Values.{Value, Made, NoValues, AndValue, no_value}
 use Rattle.elm_meaning.specs.PairsVisited.{compared}
 use Rattle.elm_meaning.specs.Equations.{Equation}
-use Rattle.elm_meaning.specs.Progress.{State, Ending, Returns, Stops}
+use Rattle.elm_meaning.specs.Progress.{Ending, Returns, Stops}
 use Rattle.elm_meaning.specs.Evaluation.{truth_of}
 use Rattle.elm_meaning.specs.Calls.{call_of}
 use Rattle.signal_meaning.specs.Events.{Event, Taken, Delivered}

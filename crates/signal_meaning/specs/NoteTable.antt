@@ -1,5 +1,5 @@
 -- The notes of a run, the watch table and the logs of an event.
-use Rattle.std.specs.Prelude.{ℕ, Bool, if◌then◌else◌, Option, Some, None, List, [], ◌∷◌, ◌++◌}
+use Rattle.std.specs.Prelude.{ℕ, if◌then◌else◌, Option, Some, None, List, [], ◌∷◌, ◌++◌}
 use Rattle.std.specs.Str.{bytes_eq}
 use Rattle.elm_base.specs.declared.term.Note.{Note}
 use Rattle.elm_base.specs.declared.term.NoteKind.{NoteKind}

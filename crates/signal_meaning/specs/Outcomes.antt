@@ -2,8 +2,8 @@
 use Rattle.std.specs.Prelude.{ℕ, suc, Bool, false, Option, Some, None, List, [], ◌∷◌, length}
 use Rattle.elm_meaning.specs.Values.{Value}
 use Rattle.signal_meaning.specs.Events.{Event}
-use Rattle.signal_meaning.specs.StageOne.{Start, Cause, Begun, Network, stage_one_of, network}
-use Rattle.signal_meaning.specs.Nodes.{Say, Same, Change, Stop, Said}
+use Rattle.signal_meaning.specs.StageOne.{Start, Cause, Begun, stage_one_of, network}
+use Rattle.signal_meaning.specs.Nodes.{Say, Stop, Said}
 use Rattle.signal_meaning.specs.Moments.{moment, value, changed, pending}
 
 -- a top value in the order of groups, or a node

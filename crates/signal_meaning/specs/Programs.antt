@@ -1,5 +1,5 @@
 -- The programs of worked runs.
-use Rattle.std.specs.Prelude.{ℕ, ◌+◌, List, [], ◌∷◌, ◌++◌, true, false, codes}
+use Rattle.std.specs.Prelude.{ℕ, ◌+◌, List, [], ◌∷◌, ◌++◌, true, false}
 use Prim.Native.String.{String}
 use Rattle.elm_base.specs.declared.native.TheConstants.{ADD, SUBTRACT, MULTIPLY, DIVIDE, EQUAL, GREATER, LOG, CONSTANT, MAP, MAP2, FOLDP, MERGE, FILTER, FILTER_MAP, DROP_REPEATS, SAMPLE_ON, ASYNC, TEXT}
 use Rattle.elm_meaning.specs.Patterns.{Pattern, patterns_of}
@@ -7,7 +7,7 @@ use Rattle.elm_meaning.specs.Values.{Value, Unit, Tree, Done, Local, Top, Input,
 use Rattle.elm_meaning.specs.Answers.{truth}
 use Rattle.elm_meaning.specs.Spelling.{int, text, tuple, made, record_of, native, maker, call, of_one, of_two, watch, tuple_term}
 use Rattle.elm_meaning.specs.Examples.{show}
-use Rattle.signal_meaning.specs.Events.{Event, Taken, Delivered}
+use Rattle.signal_meaning.specs.Events.{Event, Taken}
 use Rattle.signal_meaning.specs.StageOne.{Start}
 
 abbrev pub number : ℕ → Tree

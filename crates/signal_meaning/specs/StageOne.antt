@@ -1,5 +1,5 @@
 -- Stage one: the top values are evaluated in their order, each with the same fuel, and add the equations of signals.
-use Rattle.std.specs.Prelude.{ℕ, Option, Some, None, List, [], ◌∷◌, ◌++◌, length}
+use Rattle.std.specs.Prelude.{ℕ, Option, Some, None, List, [], ◌∷◌, ◌++◌}
 use Rattle.elm_base.specs.declared.term.Note.{Note}
 use Rattle.elm_base.specs.declared.term.RunFault.{RunFault}
 use Rattle.elm_meaning.specs.Values.{Value, Tree}
