@@ -9,3 +9,4 @@ pub mod Unnamed
 pub mod MoreTops
 pub mod Within
 pub mod Captured
+pub mod Spent

@@ -1,10 +1,15 @@
 //! Which native has which number, and how many arguments it takes. The bodies are empty: what is stated holds of the
 //! definitions.
 
-ghost use Rattle.std.specs.Prelude.{◌≡◌, None, Some, [], ◌∷◌, length, map};
+ghost use Rattle.std.specs.Prelude.{◌≡◌, ℕ, suc, ◌-◌, ◌<◌, ◌≤◌, None, Some, List, [], ◌∷◌, length, map};
 ghost use Rattle.elm_base.specs.declared.native.TheConstants.{ADD, MAP, MAP2, MAP3, MAP4, MAP5, CONSTANT, FOLDP, MERGE, FILTER, FILTER_MAP, DROP_REPEATS, SAMPLE_ON, ASYNC, EMPTY, UP, DOWN, LEFT, RIGHT, TOP_LEFT, MIDDLE, BOTTOM_RIGHT, NATIVES};
-ghost use Rattle.elm_meaning.specs.Answers.{no_reply};
-ghost use Rattle.elm_meaning.specs.NativeTable.{natives, native_at, reply, IsValue, takes_of};
+ghost use Rattle.elm_base.specs.declared.term.RunFault.TheVariants.{OutOfFuel};
+ghost use Rattle.elm_meaning.specs.declared.callee.Callee.TheVariants as callee;
+ghost use Rattle.elm_meaning.specs.Values.{Value, Values, Applicable, Partial};
+ghost use Rattle.elm_meaning.specs.Answers.{Reply, no_reply};
+ghost use Rattle.elm_meaning.specs.Progress.{State, Returns, Stops, with_left, with_notes, spend, answered, replied};
+ghost use Rattle.elm_meaning.specs.Evaluation.{with_argument, number_of, list_of, apply, evaluate};
+ghost use Rattle.elm_meaning.specs.NativeTable.{natives, native_at, reply, IsValue, Replies, takes_of};
 ghost use Rattle.elm_meaning.specs.Spelling.{int, made, element};
 
 /// There are as many as elm_base numbers, each takes as many arguments as its type in the library says, and there is
@@ -46,4 +51,27 @@ pub fn there_may_be_no_reply()
     ensures beyond { reply NATIVES [] ≡ no_reply }
     ensures arguments { reply ADD (int 1 ∷ []) ≡ no_reply }
     ensures kinds { reply ADD (int 1 ∷ made "True" [] ∷ []) ≡ no_reply }
+{}
+
+/// Giving an argument to a native spends a unit. With its last one the native replies; before that it lacks arguments.
+pub fn an_argument_spends_a_unit()
+    ensures last { (tops : List Value) (n takes : ℕ) (f : List Value → Reply) (vs : Values) (w : Value)
+        (s : State) →
+        native_at n ≡ Some (Replies takes f) → suc (number_of vs) ≡ takes →
+        apply (evaluate tops) (Applicable (Partial (callee.Native n) vs)) w s
+        ≡ spend 1 s (λ t. replied (reply n (list_of (with_argument vs w))) t) }
+    ensures lacking { (tops : List Value) (n takes : ℕ) (f : List Value → Reply) (vs : Values) (w : Value)
+        (s : State) →
+        native_at n ≡ Some (Replies takes f) → suc (number_of vs) < takes →
+        apply (evaluate tops) (Applicable (Partial (callee.Native n) vs)) w s
+        ≡ spend 1 s (λ t. Returns (Applicable (Partial (callee.Native n) (with_argument vs w))) t) }
+{}
+
+/// The work of a reply is spent first, then its notes are recorded and its answer comes. Where a unit is lacking none is
+/// left, and nothing is noted.
+pub fn the_work_comes_first()
+    ensures enough { (r : Reply) (s : State) → r.work ≤ s.left →
+        replied r s ≡ answered r.answer (with_notes r.notes (with_left (s.left - r.work) s)) }
+    ensures short { (r : Reply) (s : State) → s.left < r.work →
+        replied r s ≡ Stops OutOfFuel (with_left 0 s) }
 {}
