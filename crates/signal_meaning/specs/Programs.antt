@@ -224,3 +224,11 @@ logged_down =
     program
     (map (of_one (divided (number 100) (log "n" (Local 0)))) (foldp (Lambda Pattern.Anything (of_one (minus_one (Local 0)))) 2 clicks)
     ∷ map (of_one (watch "c" (Local 0))) clicks ∷ [])
+
+-- port p : Signal String; Signal.dropRepeats p, with this fuel
+abbrev pub text_repeats : ℕ → Start
+text_repeats fuel = record {
+  tops = library ++ Input 5 ∷ drop_repeats (own 0) ∷ [];
+  inputs = device_values ++ text "ab" ∷ [];
+  fuel = fuel;
+}

@@ -3,15 +3,15 @@
 
 ghost use Rattle.std.specs.Prelude.{◌≡◌, true, false, Some, None, [], ◌∷◌, reverse};
 ghost use Rattle.elm_base.specs.declared.term.RunFault.TheVariants.{OutOfFuel, IntRange, DivideByZero, FunctionEquality};
-ghost use Rattle.elm_meaning.specs.Spelling.{int, minus, text, tuple, record_of, element, bytes};
-ghost use Rattle.elm_meaning.specs.Values.{Unit};
+ghost use Rattle.elm_meaning.specs.Spelling.{of_one, int, minus, text, tuple, record_of, element, bytes};
+ghost use Rattle.elm_meaning.specs.Values.{Unit, Local};
 ghost use Rattle.signal_meaning.specs.Events.{Delivered};
 ghost use Rattle.signal_meaning.specs.StageOne.{Cause, network};
 ghost use Rattle.signal_meaning.specs.Moments.{say, value, changed, made, pending};
 ghost use Rattle.signal_meaning.specs.Nodes.{Same, Change};
 ghost use Rattle.signal_meaning.specs.Outcomes.{Running, Stopped, Top, Node, run, good, shown_value, shown_pending, shown_changed};
 ghost use Rattle.signal_meaning.specs.NoteTable.{watches, logs};
-ghost use Rattle.signal_meaning.specs.Programs.{counted_clicks, queue, async_order, merge_left, function_equality, div, div_fixed, logged_x, record_port, int_range, loop_fuel, positive_x, doubled_x, sampled_x, steady, two_asyncs, logged_down, click, moved, pressed, sent};
+ghost use Rattle.signal_meaning.specs.Programs.{counted_clicks, queue, async_order, merge_left, function_equality, div, div_fixed, logged_x, record_port, int_range, loop_fuel, positive_x, doubled_x, sampled_x, steady, two_asyncs, logged_down, text_repeats, program, map, filter, filter_map, number, mouse_x, click, moved, pressed, sent};
 
 /// A program that counts clicks, with a watch. The watch table has the last text of its tag.
 pub fn clicks_are_counted()
@@ -191,4 +191,25 @@ pub fn samples_inputs_and_constants()
     ensures no_start { changed (network steady) [] 9 ≡ false }
     ensures value { value (network steady) [] 0 ≡ tuple (int 0 ∷ int 0 ∷ []) }
     ensures pending { pending (network steady) (click ∷ []) 0 ≡ [] }
+{}
+
+/// Each call of a node has the same fuel, and so has the comparison of a signal without repeats, which spends the pairs
+/// visited.
+pub fn nodes_have_fuel()
+    ensures calls { run (text_repeats 3) [] ≡ Running }
+    ensures enough { run (text_repeats 3) (sent (text "ab") ∷ []) ≡ Running }
+    ensures short { run (text_repeats 2) (sent (text "ab") ∷ [])
+        ≡ Stopped 1 (Node 10) (Cause.Fault OutOfFuel) }
+    ensures differs { shown_value (text_repeats 2) (sent (text "b") ∷ []) 10 ≡ Some (text "b") }
+{}
+
+/// An ill-typed program stops where there is no rule; a well-typed one never does.
+pub fn want_of_a_rule_stops_a_run()
+    ensures top { run (program (Local 0 ∷ [])) [] ≡ Stopped 0 (Top 9) Cause.NoRule }
+    ensures function { run (program (map (number 1) mouse_x ∷ [])) []
+        ≡ Stopped 0 (Node 9) Cause.NoRule }
+    ensures test { run (program (filter (of_one (Local 0)) 7 mouse_x ∷ [])) []
+        ≡ Stopped 0 (Node 9) Cause.NoRule }
+    ensures maybe { run (program (filter_map (of_one (Local 0)) 7 mouse_x ∷ [])) []
+        ≡ Stopped 0 (Node 9) Cause.NoRule }
 {}
