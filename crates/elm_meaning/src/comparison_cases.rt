@@ -5,7 +5,7 @@ ghost use Rattle.std.specs.Prelude.{◌≡◌, [], ◌∷◌};
 ghost use Rattle.elm_base.specs.declared.native.TheConstants.{NEGATE, TO_STRING};
 ghost use Rattle.elm_meaning.specs.declared.compared.Comparison.TheVariants.{Equality, Order};
 ghost use Rattle.elm_meaning.specs.declared.compared.Outcome.TheVariants.{Less, Equal, Greater, Different, FunctionMet, OutOfFuel};
-ghost use Rattle.elm_meaning.specs.Values.{Unit, Signal};
+ghost use Rattle.elm_meaning.specs.Values.{Unit, Signal, no_value};
 ghost use Rattle.elm_meaning.specs.PairsVisited.{visited, compared, after_pairs};
 ghost use Rattle.elm_meaning.specs.Spelling.{int, minus, char, text, list, tuple, made, record_of, element, native_value};
 
@@ -140,6 +140,7 @@ pub fn functions_have_no_equality()
         ≡ after_pairs 1 FunctionMet }
     ensures met_in_order { visited Order (native_value NEGATE) (native_value TO_STRING)
         ≡ after_pairs 1 FunctionMet }
+    ensures no_value { visited Equality no_value no_value ≡ after_pairs 1 FunctionMet }
     ensures earlier { visited Equality (tuple (int 1 ∷ native_value NEGATE ∷ []))
         (tuple (int 2 ∷ native_value NEGATE ∷ []))
         ≡ after_pairs 2 Different }

@@ -218,12 +218,24 @@ steady = program (Call (native CONSTANT) (number 7) ∷ foldp count 0 (Top 0) �
 abbrev pub two_asyncs : Start
 two_asyncs = program (async clicks ∷ async mouse_x ∷ [])
 
--- Signal.map (\n -> 100 // Debug.log "n" n) (Signal.foldp (\_ n -> n - 1) 2 Mouse.clicks); Signal.map (Debug.watch "c") Mouse.clicks
+-- Signal.map (\n -> 100 // Debug.log "n" n) (Signal.foldp (\_ n -> n - 1) 2 Mouse.clicks); Signal.map (Debug.log "c") Mouse.clicks
 abbrev pub logged_down : Start
 logged_down =
     program
     (map (of_one (divided (number 100) (log "n" (Local 0)))) (foldp (Lambda Pattern.Anything (of_one (minus_one (Local 0)))) 2 clicks)
-    ∷ map (of_one (watch "c" (Local 0))) clicks ∷ [])
+    ∷ map (of_one (log "c" (Local 0))) clicks ∷ [])
+
+-- Signal.map (Debug.watch "x") Mouse.x; Signal.foldp (\_ n -> Debug.watch "count" (n + 1)) 0 Mouse.clicks
+abbrev pub two_watches : Start
+two_watches =
+    program
+    (map (of_one (watch "x" (Local 0))) mouse_x
+    ∷ foldp (Lambda Pattern.Anything (of_one (watch "count" (plus (Local 0) (number 1))))) 0 clicks ∷ [])
+
+-- a = Debug.log "a" 1; s = Signal.map (Debug.log "n") Mouse.x; b = Debug.log "b" 2, and perhaps more top values
+abbrev pub logging_tops : List Tree → Start
+logging_tops more =
+    program (log "a" (number 1) ∷ map (of_one (log "n" (Local 0))) mouse_x ∷ log "b" (number 2) ∷ more)
 
 -- port p : Signal String; Signal.dropRepeats p, with this fuel
 abbrev pub text_repeats : ℕ → Start

@@ -17,5 +17,6 @@ pub use worked_runs::{
     asyncs_are_numbered_by_themselves, clicks_are_counted, deliveries_come_in_the_order_of_events,
     filters_keep_what_passes, logs_come_with_changes, nodes_have_fuel, notes_come_up_to_the_fault,
     repeats_are_dropped, samples_inputs_and_constants, the_left_of_a_merge_counts,
-    top_values_have_fuel, want_of_a_rule_stops_a_run,
+    top_values_have_fuel, top_values_note_first, want_of_a_rule_stops_a_run,
+    watches_keep_their_order,
 };

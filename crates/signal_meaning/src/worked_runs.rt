@@ -11,7 +11,7 @@ ghost use Rattle.signal_meaning.specs.Moments.{say, value, changed, made, pendin
 ghost use Rattle.signal_meaning.specs.Nodes.{Same, Change};
 ghost use Rattle.signal_meaning.specs.Outcomes.{Running, Stopped, Top, Node, run, good, shown_value, shown_pending, shown_changed};
 ghost use Rattle.signal_meaning.specs.NoteTable.{watches, logs};
-ghost use Rattle.signal_meaning.specs.Programs.{counted_clicks, queue, async_order, merge_left, function_equality, div, div_fixed, logged_x, record_port, int_range, loop_fuel, positive_x, doubled_x, sampled_x, steady, two_asyncs, logged_down, text_repeats, program, map, filter, filter_map, number, mouse_x, click, moved, pressed, sent};
+ghost use Rattle.signal_meaning.specs.Programs.{counted_clicks, queue, async_order, merge_left, function_equality, div, div_fixed, logged_x, record_port, int_range, loop_fuel, positive_x, doubled_x, sampled_x, steady, two_asyncs, logged_down, two_watches, logging_tops, text_repeats, program, map, filter, filter_map, number, divided, log, mouse_x, click, moved, pressed, sent};
 
 /// A program that counts clicks, with a watch. The watch table has the last text of its tag.
 pub fn clicks_are_counted()
@@ -153,12 +153,33 @@ pub fn logs_come_with_changes()
 
 /// Notes come up to the fault, in the order of nodes; after a stop there are none.
 pub fn notes_come_up_to_the_fault()
-    ensures before { logs logged_down (click ∷ []) ≡ (bytes "n", bytes "1") ∷ [] }
+    ensures before { logs logged_down (click ∷ [])
+        ≡ (bytes "n", bytes "1") ∷ (bytes "c", bytes "()") ∷ [] }
     ensures fault { logs logged_down (click ∷ click ∷ []) ≡ (bytes "n", bytes "0") ∷ [] }
     ensures later { logs logged_down (click ∷ click ∷ click ∷ []) ≡ [] }
-    ensures watch { watches logged_down (click ∷ []) ≡ (bytes "c", bytes "()") ∷ [] }
     ensures stopped { run logged_down (click ∷ click ∷ [])
         ≡ Stopped 2 (Node 10) (Cause.Fault DivideByZero) }
+{}
+
+/// The notes of event 0 are those of the top values, then those of the nodes; a fault of a top value ends them.
+pub fn top_values_note_first()
+    ensures nodes_behind { logs (logging_tops []) []
+        ≡ (bytes "a", bytes "1") ∷ (bytes "b", bytes "2") ∷ (bytes "n", bytes "0") ∷ [] }
+    ensures fault { logs
+        (logging_tops (divided (log "c" (number 3)) (number 0) ∷ log "d" (number 4) ∷ [])) []
+        ≡ (bytes "a", bytes "1") ∷ (bytes "b", bytes "2") ∷ (bytes "c", bytes "3") ∷ [] }
+    ensures stopped { run (logging_tops (divided (number 3) (log "c" (number 0)) ∷ [])) []
+        ≡ Stopped 0 (Top 12) (Cause.Fault DivideByZero) }
+{}
+
+/// The watch table has the last text of each tag, in the order of first record.
+pub fn watches_keep_their_order()
+    ensures start { watches two_watches [] ≡ (bytes "x", bytes "0") ∷ [] }
+    ensures second { watches two_watches (click ∷ [])
+        ≡ (bytes "x", bytes "0") ∷ (bytes "count", bytes "1") ∷ [] }
+    ensures changed { watches two_watches (moved (int 5) (int 0) ∷ click ∷ [])
+        ≡ (bytes "x", bytes "5") ∷ (bytes "count", bytes "1") ∷ [] }
+    ensures no_logs { logs two_watches (click ∷ []) ≡ [] }
 {}
 
 /// A filter keeps its value where the test doesn't hold, and begins with the other value then.

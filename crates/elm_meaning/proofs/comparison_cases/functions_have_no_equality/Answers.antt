@@ -7,4 +7,4 @@ use Rattle.elm_meaning.proofs.comparison_cases.functions_have_no_equality.Goals 
 
 pub returns : goal.returns
 unfolding chars digits encode to_depth evaluate eval
-returns c = record { met = refl; met_in_order = refl; earlier = refl; later = refl }
+returns c = record { met = refl; met_in_order = refl; no_value = refl; earlier = refl; later = refl }

@@ -7,4 +7,4 @@ use Rattle.signal_meaning.proofs.worked_runs.notes_come_up_to_the_fault.Goals as
 
 pub returns : goal.returns
 unfolding chars digits encode to_depth evaluate eval
-returns c = record { before = refl; fault = refl; later = refl; watch = refl; stopped = refl }
+returns c = record { before = refl; fault = refl; later = refl; stopped = refl }
