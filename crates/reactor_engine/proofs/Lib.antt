@@ -1,8 +1,5 @@
-pub mod Ends
 pub mod Integers
 pub mod Values
-pub mod Segments
-pub mod Feeding
 pub mod Forms
 pub mod Following
 pub mod Endings

@@ -26,16 +26,13 @@ value_of-push port events number =
     after_events-push port events (integer_event port number) _
     ∙ ap (λ same. if same then number else value_of port events) (bytes_eq-same port)
 
+-- a port shows the integer that it took last
+pub agrees_after : (port name : List ℕ) (events now : List Event) (number : ℤ) → port ≡ name → now ≡ events ++ integer_event name number ∷ [] → value_of port now ≡ number
+agrees_after port name events now number same is =
+    ap (value_of port) is ∙ ap (λ p. value_of p (events ++ integer_event name number ∷ [])) same ∙ value_of-push name events number
+
 abbrev pub state_at_end : List ℕ → List Event → Files → State
 state_at_end port events files = record { program = record { port = port }; events = events; cursor = length events; files = files }
-
--- an input of the port that spells an integer is recorded
-accepted : (files : Files) (port name text : List ℕ) (events : List Event) (number : ℤ) → port ≡ name → integer_of text ≡ Some number → next (state_at_end port events files) (command.Input name text) None ≡ recorded (state_at_end port events files) (integer_event name number)
-accepted files port name text events number same is =
-    let state = state_at_end port events files in
-    let named : bytes_eq port name ≡ true = ap (λ other. bytes_eq port other) (sym same) ∙ bytes_eq-same port in
-    ap (λ test. if test then input_value state name (integer_of text) else refused state (UnknownInput name)) named
-    ∙ ap (input_value state name) is
 
 pub state_after : (files : Files) (port new_port : List ℕ) (events new_events : List Event) (e : Event) → new_port ≡ port → new_events ≡ events ++ e ∷ [] → state_at_end new_port new_events files ≡ (recorded (state_at_end port events files) e).state
 state_after files port new_port events new_events e port_is events_is =
@@ -43,13 +40,3 @@ state_after files port new_port events new_events e port_is events_is =
     ap (λ p. state_at_end p new_events files) port_is
     ∙ ap (λ es. state_at_end port es files) events_is
     ∙ ap (λ (n : ℕ). record { program = record { port = port }; events = events ++ e ∷ []; cursor = n; files = files }) longer
-
--- the answer to such an input is the frame of the next state
-pub answers_input : (port name text before after : List ℕ) (events : List Event) (number : ℤ) (files : Files) (new_state : State) → port ≡ name → integer_of text ≡ Some number → (new_state ≡ (recorded (state_at_end port events files) (integer_event name number)).state) × (after ≡ before ++ frame_of new_state) → let step = next (state_at_end port events files) (command.Input name text) None in (new_state ≡ step.state) × (after ≡ before ++ answer_text step.state step.answer)
-answers_input port name text before after events number files new_state same is shows =
-    let step_is = accepted files port name text events number same is in (
-      shows.0 ∙ ap (λ (step : Step). step.state) (sym step_is),
-      shows.1
-          ∙ ap (λ state. before ++ frame_of state) shows.0
-          ∙ ap (λ (step : Step). before ++ answer_text step.state step.answer) (sym step_is),
-    )

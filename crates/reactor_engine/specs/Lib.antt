@@ -2,7 +2,7 @@ pub mod Session
 pub mod Words
 pub mod Project
 pub mod Loading
-pub mod Feed
+pub mod Served
 pub mod Status
 pub mod Serving
 pub mod Run

@@ -21,6 +21,11 @@ Loads files project (Err (Fault fault)) = Compiles files project (Err fault)
 Loads files project (Err (Shelf file)) = file ≡ main_file project
 Loads files project (Err NoMemory) = Unit {0}
 
+-- the file of a failed call is that of Main
+abbrev pub NamesMain : List ℕ → Result (List ℕ) LoadStop → Type 0
+NamesMain project (Err (Shelf file)) = file ≡ main_file project
+NamesMain project _ = Unit {0}
+
 -- a failed call shows in the shelf's count, and every other answer leaves it
 abbrev pub CountsLoad : ℕ → ℕ → Result (List ℕ) LoadStop → Type 0
 CountsLoad before after (Ok port) = after ≡ before

@@ -12,7 +12,7 @@ use Rattle.layout_lexer.specs.declared.place.TextFault.{TextFault}
 use Rattle.layout_lexer.specs.Lexemes.{Lexeme}
 use Rattle.layout_lexer.specs.Tokens.{Tokens, FirstFault}
 use Rattle.reactor_outside.specs.Shelf.{Files}
-use Rattle.reactor_meaning.specs.Script.{is_letter, is_digit}
+use Rattle.elm_base.specs.Letters.{is_letter, is_digit}
 use Rattle.reactor_meaning.specs.Program.{Program}
 
 -- the file of a project's first module

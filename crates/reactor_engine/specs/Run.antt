@@ -1,16 +1,17 @@
 -- The run of the program: what its words, the files and the script give.
-use Rattle.std.specs.Prelude.{◌≡◌, ◌⊎◌, ◌<◌, ℕ, List, [], length, codes, Option, Some, None, Result, Ok, Err, IfSome}
+use Rattle.std.specs.Prelude.{◌≡◌, ◌⊎◌, ◌<◌, ◌≤◌, ◌++◌, ℕ, List, [], length, take, codes, Option, Some, None, Result, Ok, Err, IfSome}
 use Rattle.elm_base.specs.declared.fault.ProjectFault.{ProjectFault}
 use Rattle.reactor_outside.specs.Count.{Rose}
 use Rattle.reactor_outside.specs.Sink.{with_bytes}
 use Rattle.reactor_outside.specs.Shelf.{Files}
 use Rattle.reactor_meaning.specs.Program.{Program}
-use Rattle.reactor_meaning.specs.Transcript.{transcript}
-use Rattle.reactor_meaning.specs.Texts.{fault_line}
+use Rattle.reactor_meaning.specs.Command.{begun}
+use Rattle.reactor_meaning.specs.Transcript.{frame_of, transcript, written_so_far}
+use Rattle.frame_text.specs.Faults.{fault_line, shelf_line}
 use Rattle.reactor_engine.specs.declared.status.Status.{Status}
 use Rattle.reactor_engine.specs.declared.status.Status.TheVariants.{Done, Usage, ProjectRefused, ReadFault, WriteFault, ShelfFault, ScriptTooLong, NoMemory}
-use Rattle.reactor_engine.specs.Project.{Compiles}
-use Rattle.reactor_engine.specs.Serving.{Outside, max_script}
+use Rattle.reactor_engine.specs.Project.{Compiles, main_file}
+use Rattle.reactor_engine.specs.Serving.{Outside, Serves, max_script}
 
 -- the text that says how the program is called
 abbrev pub usage_text : List ℕ
@@ -34,10 +35,6 @@ Ends None files script before status after = (status ≡ Usage) × (after ≡ wi
 Ends (Some project) files script before status after =
     (given : Result Program ProjectFault) × Compiles files project given × EndsWith given files script before status after
 
--- the project has a program, where the files are told
-abbrev pub HasProgram : Option Files → List ℕ → Type 0
-HasProgram told project = IfSome told (λ files. (program : Program) × Compiles files project (Ok program))
-
 -- the project has a fault, where the files are told
 abbrev pub HasFault : Option Files → List ℕ → Type 0
 HasFault told project = IfSome told (λ files. (fault : ProjectFault) × Compiles files project (Err fault))
@@ -51,31 +48,50 @@ AsksFor (Some project) P = P project
 abbrev pub IsRefusal : Status → Type 0
 IsRefusal status = (status ≡ ProjectRefused) ⊎ ((status ≡ WriteFault) ⊎ ((status ≡ ShelfFault) ⊎ (status ≡ NoMemory)))
 
+-- ---- what was written where a run ended early
+
+-- The first frame and the answers to the whole lines of some first bytes of the script were written, those before what
+-- is left of it.
+abbrev pub UntilFault : Option Files → Option (List ℕ) → Option (List ℕ) → Option (List ℕ) → Option (List ℕ) → List ℕ → Type 0
+UntilFault told left left_end taken taken_end project =
+    IfSome told (λ files. (program : Program) × Compiles files project (Ok program)
+    × IfSome left (λ script. IfSome left_end (λ rest.
+    (text : List ℕ) × (script ≡ text ++ rest) × (taken_end ≡ with_bytes (written_so_far program files text) taken))))
+
+-- the same of as many first bytes as a script may have
+abbrev pub UpToLimit : Option Files → Option (List ℕ) → Option (List ℕ) → Option (List ℕ) → List ℕ → Type 0
+UpToLimit told left taken taken_end project =
+    IfSome told (λ files. (program : Program) × Compiles files project (Ok program)
+    × IfSome left (λ script. taken_end ≡ with_bytes (written_so_far program files (take max_script script)) taken))
+
 -- ---- what each status says, for the proof of the clauses above
 
 -- a run without a project to run
 abbrev pub UsageRun : Outside → Outside → Status → Type 0
 UsageRun before after Usage = after.taken ≡ with_bytes usage_text before.taken
 UsageRun before after WriteFault = Rose before.writes after.writes
-UsageRun before after Done = ⊥
-UsageRun before after ProjectRefused = ⊥
-UsageRun before after ReadFault = ⊥
-UsageRun before after ShelfFault = ⊥
-UsageRun before after ScriptTooLong = ⊥
-UsageRun before after NoMemory = ⊥
+UsageRun before after _ = ⊥
+
+-- the project's program served the script, where the files are told
+abbrev pub RunsProgram : List ℕ → Option Files → Outside → Outside → Status → Type 0
+RunsProgram project told before after status =
+    IfSome told (λ files. (program : Program) × Compiles files project (Ok program)
+    × Serves (frame_of (begun program files)) (begun program files) before after status)
 
 -- the run of a project, with the files that are told, and the shelf's count before and after
 abbrev pub ProjectRun : List ℕ → Option Files → ℕ → ℕ → Outside → Outside → Status → Type 0
 ProjectRun project told calls calls_end before after Done =
-    IfSome told (λ files. (program : Program) × Compiles files project (Ok program)
-    × IfSome before.left (λ script. after.taken ≡ with_bytes (transcript program files script []) before.taken))
+    IfSome before.left (λ script. length script ≤ max_script) × RunsProgram project told before after Done
 ProjectRun project told calls calls_end before after ProjectRefused =
-    IfSome told (λ files. (fault : ProjectFault) × Compiles files project (Err fault) × (after.taken ≡ with_bytes (fault_line fault) before.taken))
-ProjectRun project told calls calls_end before after ReadFault = Rose before.reads after.reads × HasProgram told project
+    IfSome told (λ files. (fault : ProjectFault) × Compiles files project (Err fault)
+    × (after.taken ≡ with_bytes (fault_line fault) before.taken))
+ProjectRun project told calls calls_end before after ReadFault =
+    Rose before.reads after.reads × RunsProgram project told before after ReadFault
 ProjectRun project told calls calls_end before after WriteFault = Rose before.writes after.writes
-ProjectRun project told calls calls_end before after ShelfFault = Rose calls calls_end
+ProjectRun project told calls calls_end before after ShelfFault =
+    Rose calls calls_end × (after.taken ≡ with_bytes (shelf_line (main_file project)) before.taken)
 ProjectRun project told calls calls_end before after ScriptTooLong =
-    IfSome before.left (λ script. max_script < length script) × HasProgram told project
+    IfSome before.left (λ script. max_script < length script) × RunsProgram project told before after ScriptTooLong
 ProjectRun project told calls calls_end before after NoMemory = Unit {0}
 ProjectRun project told calls calls_end before after Usage = ⊥
 

@@ -1,13 +1,14 @@
 -- The session that the program keeps, as the state of a session.
-use Rattle.std.specs.Prelude.{◌≡◌, ◌++◌, ℕ, ℤ, List, length, Option, None}
-use Rattle.elm_base.specs.declared.command.Command.{Command}
+use Rattle.std.specs.Prelude.{◌≡◌, ◌++◌, ℕ, ℤ, List, length, None}
 use Rattle.elm_base.specs.declared.event.Event.{Event}
 use Rattle.elm_base.specs.declared.event.Event.TheVariants as event
 use Rattle.elm_base.specs.declared.event.PortType.TheVariants as type
 use Rattle.elm_base.specs.declared.event.PortValue.TheVariants as value
+use Rattle.script_lines.specs.declared.line.Line.{Line}
 use Rattle.reactor_outside.specs.Shelf.{Files}
-use Rattle.reactor_meaning.specs.Command.{State, next_line, recorded}
-use Rattle.reactor_meaning.specs.Transcript.{answer_text, frame_of}
+use Rattle.reactor_meaning.specs.declared.answer.Answer.{Answer}
+use Rattle.reactor_meaning.specs.Command.{State, Step, next_line}
+use Rattle.reactor_meaning.specs.Transcript.{answer_text}
 use Rattle.reactor_engine.specs.declared.session.Session.{Session}
 
 -- the event that the input of this name takes an integer
@@ -23,14 +24,22 @@ state_of session files = record {
   files = files;
 }
 
--- From one session to the next by this line's command, with the answer written behind what was written before.
-abbrev pub Answers : Session → Option Command → Session → List ℕ → List ℕ → Type 0
-Answers old command new before after = (files : Files) →
-    let step = next_line (state_of old files) command None in
-    (state_of new files ≡ step.state) × (after ≡ before ++ answer_text step.state step.answer)
+-- the session stands for the same state
+abbrev pub IsKept : Session → Session → Type 0
+IsKept old new = (files : Files) → state_of new files ≡ state_of old files
 
--- From one session to the next by one recorded integer, with the frame written behind what was written before.
-abbrev pub Shows : Session → List ℕ → ℤ → Session → List ℕ → List ℕ → Type 0
-Shows old name number new before after = (files : Files) →
-    (state_of new files ≡ (recorded (state_of old files) (integer_event name number)).state)
-    × (after ≡ before ++ frame_of (state_of new files))
+-- from one session to the next by this step, with its answer
+abbrev pub Makes : (State → Step) → Session → Session → Answer → Type 0
+Makes step old new answer = (files : Files) →
+    let made = step (state_of old files) in
+    (state_of new files ≡ made.state) × (answer ≡ made.answer)
+
+-- from one session to the next by what a line says, with the answer
+abbrev pub Obeys : Session → Line → Session → Answer → Type 0
+Obeys old line new answer = Makes (λ state. next_line state line None) old new answer
+
+-- from one session to the next by what a line says, with the answer written behind what was written before
+abbrev pub Answers : Session → Line → Session → List ℕ → List ℕ → Type 0
+Answers old line new before after = (files : Files) →
+    let made = next_line (state_of old files) line None in
+    (state_of new files ≡ made.state) × (after ≡ before ++ answer_text made.state made.answer)

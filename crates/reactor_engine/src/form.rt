@@ -4,7 +4,7 @@ ghost use Rattle.std.specs.Str.{bytes_eq};
 ghost use Rattle.std.specs.List.{list_all};
 ghost use Rattle.std.specs.Option.{option_copied};
 ghost use Rattle.layout_lexer.specs.Lexemes.{lexeme};
-ghost use Rattle.reactor_meaning.specs.Script.{is_letter, is_digit};
+ghost use Rattle.elm_base.specs.Letters.{is_letter, is_digit};
 ghost use Rattle.reactor_engine.specs.Project as spec;
 
 use elm_base::{Token, TokenKind};

@@ -1,7 +1,7 @@
 //! The project: its one file, and the program that it gives.
 ghost use Rattle.std.specs.Prelude.{◌≡◌, IfSome, IfOk, string_bytes};
 ghost use Rattle.reactor_engine.specs.Project as spec;
-ghost use Rattle.reactor_engine.specs.Loading.{Loads, CountsLoad, ReadsText, IsFaultOrMemory};
+ghost use Rattle.reactor_engine.specs.Loading.{Loads, CountsLoad, NamesMain, ReadsText, IsFaultOrMemory};
 
 use crate::form::port_of;
 use elm_base::{FaultKind, Halt, Name, NoMemory, ProjectFault};
@@ -48,6 +48,7 @@ impl From<AllocError> for LoadStop {
 pub fn load<H: Shelf>(alloc: Global, shelf: &mut H, project: &str) -> Result<Name, LoadStop>
     ensures count { CountsLoad (H.faults shelf.old) (H.faults shelf.new) result }
     ensures answer { IfSome (H.files shelf.old) (λ files. Loads files project.now result) }
+    ensures named { NamesMain project.now result }
     ensures same { H.files shelf.new ≡ H.files shelf.old }
 {
     let file = main_file(alloc, project)?;

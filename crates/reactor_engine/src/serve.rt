@@ -1,20 +1,22 @@
 //! The run of a script on a session: each piece that is read is answered before the next is read.
-ghost use Rattle.std.specs.Prelude.{◌≡◌, ◌++◌, ◌≤◌, ◌<◌, ◌↔◌, List, ℕ, [], length, IfSome, IfOk, IfErr, OnOk};
+ghost use Rattle.std.specs.Prelude.{◌≡◌, ◌≤◌, ◌<◌, ◌↔◌, List, ℕ, Option, [], length, IfSome, IfOk, IfErr, OnOk, OnErr};
 ghost use Rattle.reactor_outside.specs.Count.{Counts, Rose};
 ghost use Rattle.reactor_outside.specs.Source.{after_bytes, HoldsNext};
 ghost use Rattle.reactor_outside.specs.Sink.{with_bytes};
 ghost use Rattle.reactor_outside.specs.Shelf.{Files};
-ghost use Rattle.reactor_meaning.specs.Script.{HasNoNewline};
-ghost use Rattle.reactor_meaning.specs.Transcript.{transcript, frame_of};
+ghost use Rattle.script_lines.specs.Lines.{HasNoNewline};
+ghost use Rattle.reactor_meaning.specs.Command.{begun};
+ghost use Rattle.reactor_meaning.specs.Transcript.{frame_of};
 ghost use Rattle.reactor_engine.specs.Session.{state_of};
-ghost use Rattle.reactor_engine.specs.Feed.{owed};
-ghost use Rattle.reactor_engine.specs.Serving.{Serves, Finishes, StopsAtLimit, Unwritten, in_the_end};
+ghost use Rattle.reactor_engine.specs.Served.{WritesPiece, WritesAll, WritesWhole};
+ghost use Rattle.reactor_engine.specs.Serving.{Serves, EndsIn, Unwritten};
 
-use crate::feed::{MAX_KEPT, answer_end, answer_piece};
+use crate::answering::{answer_end, answer_piece};
 use crate::session::Session;
 use crate::status::Status;
-use elm_base::Name;
+use elm_base::{Name, NoMemory};
 use reactor_outside::{Failed, Sink, Source, put};
+use script_lines::Lines;
 use std::alloc::Global;
 
 /// How many bytes a script has at most.
@@ -30,7 +32,7 @@ pub fn serve<S: Source, K: Sink>(
     script: &mut S,
     screen: &mut K,
 ) -> Status
-    ensures { (files : Files) → Serves (λ text. transcript (record { port = port }) files text [])
+    ensures { (files : Files) → let first = begun (record { port = port }) files in Serves (frame_of first) first
         (record { reads = S.faults script.old; writes = K.faults screen.old; left = S.left script.old; taken = K.taken screen.old })
         (record { reads = S.faults script.new; writes = K.faults screen.new; left = S.left script.new; taken = K.taken screen.new })
         result }
@@ -49,8 +51,9 @@ fn show_and_put<K: Sink>(alloc: Global, session: &Session, screen: &mut K) -> Re
     ensures err { IfErr result (λ status. Unwritten (K.faults screen.old) (K.faults screen.new) status) }
 {
     let mut out = Vec::new(alloc);
-    session.push_frame(alloc, &mut out)?;
-    put_all(screen, &out)
+    session.write_frame(alloc, &mut out)?;
+    put_all(screen, &out)?;
+    Ok(())
 }
 
 /// Writes all the bytes.
@@ -72,42 +75,67 @@ fn follow<S: Source, K: Sink>(
     script: &mut S,
     screen: &mut K,
 ) -> Status
-    ensures { (files : Files) → Serves (owed files session.old)
+    ensures { (files : Files) → Serves [] (state_of session.old files)
         (record { reads = S.faults script.old; writes = K.faults screen.old; left = S.left script.old; taken = K.taken screen.old })
         (record { reads = S.faults script.new; writes = K.faults screen.new; left = S.left script.new; taken = K.taken screen.new })
         result }
 {
-    let mut kept = Vec::new(alloc);
+    let mut lines = match Lines::new(alloc) {
+        Ok(lines) => lines,
+        Err(NoMemory) => return Status::NoMemory,
+    };
+    follow_lines(alloc, session, &mut lines, script, screen)
+}
+
+/// Answers the script line by line, of which no byte was read so far.
+fn follow_lines<S: Source, K: Sink>(
+    alloc: Global,
+    session: &mut Session,
+    lines: &mut Lines,
+    script: &mut S,
+    screen: &mut K,
+) -> Status
+    requires { lines.old ≡ [] }
+    ensures { (files : Files) → Serves [] (state_of session.old files)
+        (record { reads = S.faults script.old; writes = K.faults screen.old; left = S.left script.old; taken = K.taken screen.old })
+        (record { reads = S.faults script.new; writes = K.faults screen.new; left = S.left script.new; taken = K.taken screen.new })
+        result }
+{
     let mut input = [0u8; PIECE];
     let mut taken: u64 = 0;
-    while taken <= MAX_SCRIPT {
+    'pieces: loop {
         let room = (MAX_SCRIPT + 1 - taken).min(PIECE as u64) as usize;
         let count = match read_piece(script, &mut input, room) {
             Ok(count) => count,
             Err(Failed) => return Status::ReadFault,
         };
         if count == 0 {
-            return finish(alloc, session, &kept, screen);
+            return finish(alloc, session, lines, screen);
         }
         taken += count as u64;
         if taken > MAX_SCRIPT {
             // The byte past the limit ends the run; the lines before it are answered.
-            return stop_at_limit(alloc, session, &mut kept, &input[..count - 1], screen);
+            return stop_at_limit(alloc, session, lines, &input[..count - 1], screen);
         }
-        match answer_and_put(alloc, session, &mut kept, &input[..count], screen) {
+        match answer_and_put(alloc, session, lines, &input[..count], screen) {
             Ok(()) => {}
             Err(status) => return status,
         }
     }
-    Status::ScriptTooLong
 }
 
 /// Ends a run whose script was read to its end.
-fn finish<K: Sink>(alloc: Global, session: &mut Session, kept: &[u8], screen: &mut K) -> Status
-    requires { HasNoNewline kept.now }
-    ensures { (files : Files) → Finishes (in_the_end files session.old kept.now (K.taken screen.old)) (K.faults screen.old) (K.faults screen.new) (K.taken screen.new) result }
+fn finish<K: Sink>(
+    alloc: Global,
+    session: &mut Session,
+    lines: &mut Lines,
+    screen: &mut K,
+) -> Status
+    requires { HasNoNewline lines.old }
+    ensures { EndsIn Status.Done (WritesAll session.old lines.old (K.taken screen.old) (K.taken screen.new))
+        (K.faults screen.old) (K.faults screen.new) result }
 {
-    match end_and_put(alloc, session, kept, screen) {
+    match end_and_put(alloc, session, lines, screen) {
         Ok(()) => Status::Done,
         Err(status) => status,
     }
@@ -117,15 +145,15 @@ fn finish<K: Sink>(alloc: Global, session: &mut Session, kept: &[u8], screen: &m
 fn stop_at_limit<K: Sink>(
     alloc: Global,
     session: &mut Session,
-    kept: &mut Vec<u8>,
+    lines: &mut Lines,
     piece: &[u8],
     screen: &mut K,
 ) -> Status
-    requires room { length kept.old.items ≤ MAX_KEPT }
-    requires kept { HasNoNewline kept.old.items }
-    ensures { StopsAtLimit (K.faults screen.old) (K.faults screen.new) result }
+    ensures { EndsIn Status.ScriptTooLong
+        (WritesWhole piece.now session.old lines.old (K.taken screen.old) (K.taken screen.new))
+        (K.faults screen.old) (K.faults screen.new) result }
 {
-    match answer_and_put(alloc, session, kept, piece, screen) {
+    match answer_and_put(alloc, session, lines, piece, screen) {
         Ok(()) => Status::ScriptTooLong,
         Err(status) => status,
     }
@@ -140,6 +168,7 @@ fn read_piece<S: Source>(script: &mut S, input: &mut [u8], room: usize) -> Resul
     ensures next { IfOk result (λ n. HoldsNext n (S.left script.old) input.new) }
     ensures rest { IfOk result (λ n. S.left script.new ≡ after_bytes n (S.left script.old)) }
     ensures end { IfOk result (λ n. IfSome (S.left script.old) (λ bytes. (n ≡ 0) ↔ (bytes ≡ []))) }
+    ensures failed { OnErr result (S.left script.new ≡ S.left script.old) }
 {
     script.read(&mut input[..room])
 }
@@ -148,36 +177,36 @@ fn read_piece<S: Source>(script: &mut S, input: &mut [u8], room: usize) -> Resul
 fn answer_and_put<K: Sink>(
     alloc: Global,
     session: &mut Session,
-    kept: &mut Vec<u8>,
+    lines: &mut Lines,
     piece: &[u8],
     screen: &mut K,
 ) -> Result<(), Status>
-    requires room { length kept.old.items ≤ MAX_KEPT }
-    requires kept { HasNoNewline kept.old.items }
-    ensures answers { OnOk result ((files : Files) (more : List ℕ) → in_the_end files session.new (kept.new.items ++ more) (K.taken screen.new) ≡ in_the_end files session.old (kept.old.items ++ (piece.now ++ more)) (K.taken screen.old)) }
-    ensures room { OnOk result (length kept.new.items ≤ MAX_KEPT) }
-    ensures kept { OnOk result (HasNoNewline kept.new.items) }
+    ensures served { OnOk result (WritesPiece piece.now
+        session.old lines.old (K.taken screen.old) session.new lines.new (K.taken screen.new)) }
+    ensures open { OnOk result (HasNoNewline lines.new) }
     ensures quiet { OnOk result (K.faults screen.new ≡ K.faults screen.old) }
     ensures err { IfErr result (λ status. Unwritten (K.faults screen.old) (K.faults screen.new) status) }
 {
     let mut out = Vec::new(alloc);
-    answer_piece(alloc, session, kept, piece, &mut out)?;
-    put_all(screen, &out)
+    answer_piece(alloc, session, lines, piece, &mut out)?;
+    put_all(screen, &out)?;
+    Ok(())
 }
 
 /// Answers the last line, if it has a byte, and writes the answer.
 fn end_and_put<K: Sink>(
     alloc: Global,
     session: &mut Session,
-    kept: &[u8],
+    lines: &mut Lines,
     screen: &mut K,
 ) -> Result<(), Status>
-    requires { HasNoNewline kept.now }
-    ensures ok { OnOk result ((files : Files) → K.taken screen.new ≡ in_the_end files session.old kept.now (K.taken screen.old)) }
+    requires { HasNoNewline lines.old }
+    ensures all { OnOk result (WritesAll session.old lines.old (K.taken screen.old) (K.taken screen.new)) }
     ensures quiet { OnOk result (K.faults screen.new ≡ K.faults screen.old) }
     ensures err { IfErr result (λ status. Unwritten (K.faults screen.old) (K.faults screen.new) status) }
 {
     let mut out = Vec::new(alloc);
-    answer_end(alloc, session, kept, &mut out)?;
-    put_all(screen, &out)
+    answer_end(alloc, session, lines, &mut out)?;
+    put_all(screen, &out)?;
+    Ok(())
 }

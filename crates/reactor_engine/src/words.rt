@@ -4,8 +4,8 @@ ghost use Rattle.std.specs.List.{list_all};
 ghost use Rattle.std.specs.Option.{option_copied};
 ghost use Rattle.reactor_engine.specs.Words as spec;
 
-use crate::script::cut;
 use elm_base::NoMemory;
+use script_lines::is_file_name;
 use std::alloc::Global;
 use std::marker::Model;
 
@@ -60,45 +60,4 @@ impl Words {
             None
         }
     }
-}
-
-/// Whether these bytes name a file or a folder.
-fn is_file_name(name: &[u8]) -> bool
-    ensures { result ≡ spec.is_file_name name.now }
-{
-    name.len() <= 255 && are_segments(name)
-}
-
-fn are_segments(name: &[u8]) -> bool
-    ensures { result ≡ list_all spec.is_segment (spec.segments name.now) }
-{
-    match cut(name, b'/') {
-        None => is_segment(name),
-        Some((first, rest)) => is_segment(first) && are_segments(rest),
-    }
-}
-
-/// A part of a name between slashes.
-fn is_segment(segment: &[u8]) -> bool
-    ensures { result ≡ spec.is_segment segment.now }
-{
-    !segment.is_empty() && are_segment_bytes(segment) && segment[0] != b'-' && !is_dots(segment)
-}
-
-fn are_segment_bytes(segment: &[u8]) -> bool
-    ensures { result ≡ list_all spec.is_segment_byte segment.now }
-{
-    segment.iter().all(|byte| is_segment_byte(*byte))
-}
-
-fn is_segment_byte(byte: u8) -> bool
-    ensures { result ≡ spec.is_segment_byte byte }
-{
-    byte.is_ascii_alphanumeric() || byte == b'_' || byte == b'-' || byte == b'.'
-}
-
-fn is_dots(segment: &[u8]) -> bool
-    ensures { result ≡ spec.is_dots segment.now }
-{
-    segment == b".".as_slice() || segment == b"..".as_slice()
 }

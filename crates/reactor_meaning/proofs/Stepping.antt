@@ -67,3 +67,8 @@ in_turn state (line ∷ lines) others =
     let step = next_line state line None in
     ap (λ more. answer_text step.state step.answer ++ more) (in_turn step.state lines others)
     ∙ sym (append_assoc (answer_text step.state step.answer) (answers step.state lines []) (answers (state_after step.state lines) others []))
+
+-- the state that lines and then others leave
+pub states_in_turn : (state : State) (lines others : List Line) → state_after state (lines ++ others) ≡ state_after (state_after state lines) others
+states_in_turn state [] others = refl
+states_in_turn state (line ∷ lines) others = states_in_turn (next_line state line None).state lines others

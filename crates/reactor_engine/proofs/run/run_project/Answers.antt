@@ -1,5 +1,5 @@
-use Rattle.std.specs.Prelude.{[]}
-use Rattle.reactor_meaning.specs.Transcript.{transcript}
+use Rattle.reactor_meaning.specs.Command.{begun}
+use Rattle.reactor_meaning.specs.Transcript.{frame_of}
 use Rattle.reactor_engine.proofs.Running.{project_served, served_reads, served_writes, no_files}
 use Rattle.reactor_engine.proofs.run.run_project.Goals as goal
 
@@ -12,14 +12,16 @@ returns-in-Ok-clause-ends g c =
 
 pub returns-in-Ok-clause-reads_kept : goal.returns-in-Ok-clause-reads_kept
 returns-in-Ok-clause-reads_kept g c =
-    served_reads (λ script. transcript (record { port = c.in-Ok.port }) no_files script [])
+    let first = begun (record { port = c.in-Ok.port }) no_files in
+    served_reads (frame_of first) first
     (record { reads = g.S.Source.faults c.args.script.now; writes = g.K.Sink.faults c.args.screen.now; left = g.S.Source.left c.args.script.now; taken = g.K.Sink.taken c.args.screen.now })
     (record { reads = g.S.Source.faults c.serve.new.script; writes = g.K.Sink.faults c.serve.new.screen; left = g.S.Source.left c.serve.new.script; taken = g.K.Sink.taken c.serve.new.screen })
     c.serve.result (c.serve.ensures no_files)
 
 pub returns-in-Ok-clause-writes_kept : goal.returns-in-Ok-clause-writes_kept
 returns-in-Ok-clause-writes_kept g c =
-    served_writes (λ script. transcript (record { port = c.in-Ok.port }) no_files script [])
+    let first = begun (record { port = c.in-Ok.port }) no_files in
+    served_writes (frame_of first) first
     (record { reads = g.S.Source.faults c.args.script.now; writes = g.K.Sink.faults c.args.screen.now; left = g.S.Source.left c.args.script.now; taken = g.K.Sink.taken c.args.screen.now })
     (record { reads = g.S.Source.faults c.serve.new.script; writes = g.K.Sink.faults c.serve.new.screen; left = g.S.Source.left c.serve.new.script; taken = g.K.Sink.taken c.serve.new.screen })
     c.serve.result (c.serve.ensures no_files)
