@@ -20,6 +20,7 @@ pub use row_laws::{
 pub use sort_laws::{flagged_types_are_simple, sorts_of_types, well_sorted_types};
 pub use type_cases::{
     fields_stand_in_order, flags_ask_of_types, functions_may_be_well_sorted,
-    lists_of_fields_may_stand_apart, parts_are_simple, rows_have_scoped_labels,
-    simple_is_below_signal, some_types_are_appendable, some_types_are_comparable, types_have_sorts,
+    library_types_have_names, lists_of_fields_may_stand_apart, parts_are_simple,
+    rows_have_scoped_labels, simple_is_below_signal, some_types_are_appendable,
+    some_types_are_comparable, types_have_sorts,
 };

@@ -4,12 +4,21 @@
 ghost use Rattle.std.specs.Prelude.{◌≡◌, Some, None, [], ◌∷◌, codes};
 ghost use Rattle.elm_typing.specs.declared.flag.Flag.TheVariants.{Plain, Comparable, Appendable, Both};
 ghost use Rattle.elm_typing.specs.Flags.{IsComparable, IsAppendable, HasFlag, joined};
-ghost use Rattle.elm_typing.specs.Ground.{Function, Record, Opaque};
+ghost use Rattle.elm_typing.specs.Ground.{Named, Function, Record, Opaque, NoGrounds, AndGround};
 ghost use Rattle.elm_typing.specs.Names.{list_of, signal_of};
 ghost use Rattle.elm_typing.specs.Ordered.{InOrder};
 ghost use Rattle.elm_typing.specs.Rows.{extended, types_of, rest_of, newest, removed, Lacks, Apart};
 ghost use Rattle.elm_typing.specs.Sorts.{Simple, Signal, IsAtMost, IsWellSorted, sort_of};
 ghost use Rattle.elm_typing.specs.Spelling.{int, char, string, bool, maybe, result_of, tuple, row, record_of, all_simple, all_signal};
+
+/// The types of the library that the rules speak of, by their names with their modules.
+pub fn library_types_have_names()
+    ensures int { int ≡ Named (codes "Basics.Int") NoGrounds }
+    ensures char { char ≡ Named (codes "Basics.Char") NoGrounds }
+    ensures string { string ≡ Named (codes "Basics.String") NoGrounds }
+    ensures list { list_of int ≡ Named (codes "Basics.List") (AndGround int NoGrounds) }
+    ensures signal { signal_of int ≡ Named (codes "Signal.Signal") (AndGround int NoGrounds) }
+{}
 
 /// Simple is below signal.
 pub fn simple_is_below_signal()
