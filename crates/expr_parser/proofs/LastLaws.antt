@@ -1,6 +1,6 @@
 -- The last of a list, by its place.
 use Rattle.std.proofs.Common.{◌≡◌, suc, ◌-◌, ◌≤◌, Bool, List, [], ◌∷◌, length, get_or, map, refl, sym, ◌∙◌, ap, arith}
-use Rattle.expr_parser.specs.Expressions.{last_of}
+use Rattle.expr_grammar.specs.Expressions.{last_of}
 
 pub last_at : {A : Type 0} (f : A → Bool) (xs : List A) (d : A) → 1 ≤ length xs → last_of (map f xs) ≡ f (get_or xs (length xs - 1) d)
 last_at f [] d h = absurd (omega arith)

@@ -1,11 +1,5 @@
-pub mod GuardLaws
-pub mod ExprReadings
-pub mod ExprLaws
-pub mod Takes
-pub mod Commas
 pub mod Closing
+pub mod Fronts
 pub mod LinkTurns
 pub mod LastLaws
-pub mod FormTakes
-pub mod BlockTurns
 pub mod LinkParts

@@ -1,15 +1,19 @@
 -- The operators and the operands of links.
-use Rattle.std.proofs.Common.{◌≡◌, ◌≢◌, List, [], ◌∷◌, ◌++◌, refl, sym, ap, Some, None}
+use Rattle.std.proofs.Common.{◌≡◌, ◌≢◌, List, [], ◌∷◌, ◌++◌, refl, sym, ◌∙◌, ap, subst, Some, None}
+use Rattle.std.specs.Prelude.{Result, Ok, Err, MatchResult}
 use Rattle.std.proofs.lemmas.List.{map-append}
+use Rattle.elm_base.specs.declared.memory.Halt.{Halt}
+use Rattle.elm_base.specs.declared.memory.Halt.TheVariants as halt
 use Rattle.elm_base.specs.declared.token.At.{At}
 use Rattle.elm_base.specs.declared.tree.Operator.{Operator}
 use Rattle.elm_base.specs.declared.tree.Expr.{Expr}
 use Rattle.elm_base.specs.declared.tree.Expr.TheVariants as e
-use Rattle.pattern_parser.specs.Terminals.{Lexeme}
-use Rattle.pattern_parser.specs.Reader.{Parser, Outcome, and_then, here, at, ◌⊗◌, ◌<$>◌}
-use Rattle.pattern_parser.proofs.Laws.{then_ok, ok_same}
+use Rattle.elm_base.specs.Lexemes.{Lexeme}
+use Rattle.grammar.specs.declared.cursor.NoTree.{NoTree}
+use Rattle.grammar.specs.Reader.{Parser, Outcome, Reads, and_then, here, at, ◌⊗◌, ◌<$>◌}
+use Rattle.grammar.proofs.Laws.{then_ok, ok_same}
 use Rattle.expr_parser.specs.Chains.{apart, separately}
-use Rattle.expr_parser.specs.Expressions.{chained}
+use Rattle.expr_grammar.specs.Expressions.{chained}
 
 -- one more
 pub apart_more : (found : List (Operator × Expr)) (operators : List Operator) (operands : List Expr) (a : Operator) (b : Expr) → apart found ≡ (operators, operands)
@@ -65,3 +69,27 @@ some_links (x ∷ xs) operators operands place first h some =
     let one = ap (λ z. z.0) h in
     let other = ap (λ z. z.1) h in
     rw (sym one, sym other) refl
+
+-- ---- what a pair says of its parts
+
+pub second_err : {A B E : Type 0} (first : A) (second : Result B E) (r : Result (A × B) E) (error : E)
+    → MatchResult second (λ x. r ≡ Ok (first, x)) (λ error. r ≡ Err error) → r ≡ Err error → second ≡ Err error
+second_err first (Ok x) r error m h = cc
+second_err first (Err other) r error m h = cc
+
+ok_inner : {X E : Type 0} {x y : X} → (let r : Result X E = Ok x in r) ≡ Ok y → x ≡ y
+ok_inner e = cc
+
+pub second_ok : {A B E : Type 0} (first : A) (second : Result B E) (r : Result (A × B) E) (a : A) (b : B)
+    → MatchResult second (λ x. r ≡ Ok (first, x)) (λ error. r ≡ Err error) → r ≡ Ok (a, b) → (first ≡ a) × (second ≡ Ok b)
+second_ok first (Ok x) r a b m h = let pair = ok_inner (sym m ∙ h) in (ap (λ z. z.0) pair, ap (λ z. Ok z.1) pair)
+second_ok first (Err other) r a b m h = cc
+
+-- ---- what was read, by its result
+
+pub read_ok : {A : Type 0} (o : Outcome A) (r : Result A (Halt NoTree)) (new : List Lexeme) (x : A) → Reads o r new → r ≡ Ok x → o ≡ Some (x, new)
+read_ok o r new x h e = subst (λ z. Reads o z new) e h
+
+pub read_err : {A : Type 0} (o : Outcome A) (r : Result A (Halt NoTree)) (new : List Lexeme) (cause : Halt NoTree) → Reads o r new
+    → (cause ≢ halt.NoMemory → r ≡ Err cause) → cause ≢ halt.NoMemory → o ≡ None
+read_err o r new cause h e other = subst (λ z. Reads o z new) (e other) h other

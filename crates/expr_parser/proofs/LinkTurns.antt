@@ -2,11 +2,12 @@
 use Rattle.std.proofs.Common.{◌≡◌, ◌≢◌, ℕ, zero, suc, ◌<◌, ◌≤◌, Bool, true, false, if◌then◌else◌, List, [], ◌∷◌, ◌++◌, length, refl, sym, ◌∙◌, ap, append_assoc, append-nil, arith, Some, None}
 use Rattle.elm_base.specs.declared.memory.Halt.{Halt}
 use Rattle.elm_base.specs.declared.memory.Halt.TheVariants as halt
-use Rattle.pattern_parser.specs.declared.cursor.NoTree.{NoTree}
-use Rattle.pattern_parser.specs.declared.terminal.Terminal.{Terminal}
-use Rattle.pattern_parser.specs.Terminals.{Lexeme, starts}
-use Rattle.pattern_parser.specs.Reader.{Outcome, Parser, and_then, links, with_front}
-use Rattle.pattern_parser.proofs.Turns.{Takes}
+use Rattle.elm_base.specs.Lexemes.{Lexeme}
+use Rattle.grammar.specs.declared.cursor.NoTree.{NoTree}
+use Rattle.grammar.specs.declared.terminal.Terminal.{Terminal}
+use Rattle.grammar.specs.Terminals.{starts}
+use Rattle.grammar.specs.Reader.{Outcome, Parser, and_then, choose, links, with_front}
+use Rattle.grammar.proofs.Turns.{Takes}
 
 module _ {A B : Type 0} (between last : List Terminal) (o : Parser A) (p q : Parser B) where
   -- what is read behind one that stands between, by whether the last form follows
@@ -36,15 +37,14 @@ module _ {A B : Type 0} (between last : List Terminal) (o : Parser A) (p q : Par
   links_err_between found d [] s e w h = cc
   links_err_between found d (t ∷ ts) s e w h = w ∙ ap (with_front found) (unrolled (length ts) (t ∷ ts) s ∙ ap (λ z. and_then z (λ a us. behind (length ts) a (starts last us) us)) (e h))
 
-  pub links_err_last : {whole : Outcome (List (A × B))} (found : List (A × B)) (d : Halt NoTree) (a : A) (ts us : List Lexeme)
-      → starts between ts ≡ true → o ts ≡ Some (a, us) → starts last us ≡ true → (d ≢ halt.NoMemory → q us ≡ None)
+  pub links_err_behind : {whole : Outcome (List (A × B))} (found : List (A × B)) (d : Halt NoTree) (a : A) (ts us : List Lexeme)
+      → starts between ts ≡ true → o ts ≡ Some (a, us) → (d ≢ halt.NoMemory → choose last q p us ≡ None)
       → whole ≡ with_front found (all_links ts) → d ≢ halt.NoMemory → whole ≡ None
-  links_err_last found d a ts us s e l k w h = let t = turn_of ts a us s e in w ∙ rw (t.2, l, k h)
-
-  pub links_err_next : {whole : Outcome (List (A × B))} (found : List (A × B)) (d : Halt NoTree) (a : A) (ts us : List Lexeme)
-      → starts between ts ≡ true → o ts ≡ Some (a, us) → starts last us ≡ false → (d ≢ halt.NoMemory → p us ≡ None)
-      → whole ≡ with_front found (all_links ts) → d ≢ halt.NoMemory → whole ≡ None
-  links_err_next found d a ts us s e l k w h = let t = turn_of ts a us s e in w ∙ rw (t.2, l, k h)
+  links_err_behind found d a ts us s e k w h = let t = turn_of ts a us s e in w ∙ ap (with_front found) t.2 ∙ go (starts last us) t.0 (k h)
+    where
+      go : (b : Bool) (n : ℕ) → (if b then q us else p us) ≡ None → with_front found (behind n a b us) ≡ None
+      go true n e = rw e
+      go false n e = rw e
 
   pub links_end : {whole : Outcome (List (A × B))} (found : List (A × B)) (ts : List Lexeme) → starts between ts ≡ false
       → whole ≡ with_front found (all_links ts) → whole ≡ Some (found, ts)
@@ -96,3 +96,10 @@ module _ {A B : Type 0} (between last : List Terminal) (o : Parser A) (p q : Par
         go : (r : Outcome (List (A × B))) → with_front found (and_then r (λ rest ws. Some ((a, b) ∷ rest, ws))) ≡ with_front (found ++ (a, b) ∷ []) r
         go None = refl
         go (Some x) = ap (λ z. Some (z, x.1)) (sym (append_assoc found ((a, b) ∷ []) x.0))
+
+-- what a choice reads, where the first token is of the set, and where it isn't
+pub chosen_first : {A : Type 0} (set : List Terminal) (p q : Parser A) (ts : List Lexeme) (r : Outcome A) → starts set ts ≡ true → choose set p q ts ≡ r → p ts ≡ r
+chosen_first set p q ts r s e = rw s at e
+
+pub chosen_second : {A : Type 0} (set : List Terminal) (p q : Parser A) (ts : List Lexeme) (r : Outcome A) → starts set ts ≡ false → choose set p q ts ≡ r → q ts ≡ r
+chosen_second set p q ts r s e = rw s at e

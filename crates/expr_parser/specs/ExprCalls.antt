@@ -4,10 +4,10 @@ use Rattle.std.specs.declared.alloc.Global.{Global}
 use denote.Ref.{MutBor}
 use Rattle.elm_base.specs.declared.memory.Halt.{Halt}
 use Rattle.elm_base.specs.declared.tree.Expr.{Expr}
-use Rattle.pattern_parser.specs.declared.cursor.NoTree.{NoTree}
-use Rattle.pattern_parser.specs.Terminals.{Lexeme}
-use Rattle.pattern_parser.specs.Reader.{Reads}
-use Rattle.expr_parser.specs.ExprReader.{tree_at}
+use Rattle.elm_base.specs.Lexemes.{Lexeme}
+use Rattle.grammar.specs.declared.cursor.NoTree.{NoTree}
+use Rattle.grammar.specs.Reader.{Reads}
+use Rattle.expr_grammar.specs.ExprReader.{tree_at}
 
 pub record ReadsExprs (depth : ℕ) (pre : Global → Bool → ℕ → MutBor (List Lexeme) → Type 0)
     (post : Global → Bool → ℕ → MutBor (List Lexeme) → Result Expr (Halt NoTree) → MutBor (List Lexeme) → Type 0) : Type 0 where

@@ -1,7 +1,7 @@
 -- Parsers of what is made at a place that was read before, and of how many there are.
 use Rattle.std.specs.Prelude.{ℕ, List, length}
 use Rattle.elm_base.specs.declared.token.At.{At}
-use Rattle.pattern_parser.specs.Reader.{Parser, ◌<$>◌}
+use Rattle.grammar.specs.Reader.{Parser, ◌<$>◌}
 
 abbrev pub placed : {A : Type 0} → At → Parser (At → A) → Parser A
 placed at p = (λ make. make at) <$> p

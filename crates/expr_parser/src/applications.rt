@@ -1,29 +1,27 @@
 //! Atoms with accesses, applications, and operands.
-ghost use Rattle.std.specs.Prelude.{◌≡◌, true, false, [], ◌∷◌, IfOk};
-ghost use Rattle.pattern_parser.specs.declared.terminal.Terminal.TheVariants as k;
-ghost use Rattle.pattern_parser.specs.Reader.{Reads, choose, many, spelled};
-ghost use Rattle.pattern_parser.specs.Spelling.{label_of};
-ghost use Rattle.expr_parser.specs.Expressions as grammar;
-ghost use Rattle.expr_parser.specs.ExprReader as spec;
+ghost use Rattle.std.specs.Prelude.{◌≡◌, [], ◌∷◌, IfOk};
+ghost use Rattle.grammar.specs.declared.terminal.Terminal.TheVariants as k;
+ghost use Rattle.grammar.specs.Reader.{Reads, many, spelled};
+ghost use Rattle.grammar.specs.Spelling.{label_of};
+ghost use Rattle.expr_grammar.specs.Expressions as grammar;
+ghost use Rattle.expr_grammar.specs.ExprReader as spec;
 ghost use Rattle.expr_parser.specs.ExprCalls.{ReadsExprs};
 
 use crate::atoms::{character, constructor, field_function, int, text, variable};
-use crate::begins::begins_atom;
+use crate::begins::ATOMS;
 use crate::exprs::Exprs;
 use elm_base::{At, Expr, Halt, Name};
-use pattern_parser::{Cursor, NoTree, Terminal};
+use grammar::{Cursor, NoTree, Terminal, many, paired};
 use sqlite_items::{Boxed, Items};
 use std::alloc::{AllocError, Global};
 
 /// The labels of the accesses that stand next.
 fn labels(alloc: Global, tokens: &mut Cursor<'_>) -> Result<Items<Name>, Halt<NoTree>>
-    ensures { Reads (many (k.Access ∷ []) (spelled k.Access label_of) tokens.old) result tokens.new }
+    ensures { Reads (many (k.Access ∷ []) (spelled k.Access label_of) tokens.old)
+        result tokens.new }
 {
-    let mut found = Items::new(alloc);
-    'turns: while tokens.sees(Terminal::Access) {
-        found.push(tokens.label(alloc, Terminal::Access)?)?;
-    }
-    Ok(found)
+    let next = |tokens: &mut Cursor<'_>| tokens.label(alloc, Terminal::Access);
+    many(alloc, &[Terminal::Access], next, tokens)
 }
 
 /// The fields of these labels, each of what the ones before it give.
@@ -62,7 +60,7 @@ fn applied(
 impl<F: Fn(Global, bool, usize, &mut Cursor<'_>) -> Result<Expr, Halt<NoTree>>> Exprs<F> {
     fn with_parts(&self, tokens: &mut Cursor<'_>) -> Result<Expr, Halt<NoTree>>
         requires { ReadsExprs self.now.depth (F.pre self.now.below) (F.post self.now.below) }
-        ensures { Reads (choose (k.LeftParen ∷ []) (spec.brackets self.now.depth (spec.tree_at false self.now.depth) (spec.tree_at true self.now.depth)) (choose (k.LeftBracket ∷ []) (spec.list self.now.depth (spec.tree_at false self.now.depth) (spec.tree_at true self.now.depth)) (spec.braces self.now.depth (spec.tree_at false self.now.depth) (spec.tree_at true self.now.depth))) tokens.old) result tokens.new }
+        ensures { Reads (spec.with_parts (spec.below self.now.depth) tokens.old) result tokens.new }
     {
         if tokens.sees(Terminal::LeftParen) {
             self.brackets(tokens)
@@ -74,10 +72,10 @@ impl<F: Fn(Global, bool, usize, &mut Cursor<'_>) -> Result<Expr, Halt<NoTree>>> 
     }
 
     /// An atom without accesses.
-    #[tactic(auto, unfolding(crate::specs::ExprReader::primary))]
+    #[tactic(auto, unfolding(expr_grammar::specs::ExprReader::primary))]
     fn primary(&self, tokens: &mut Cursor<'_>) -> Result<Expr, Halt<NoTree>>
         requires { ReadsExprs self.now.depth (F.pre self.now.below) (F.post self.now.below) }
-        ensures { Reads (spec.primary self.now.depth (spec.tree_at false self.now.depth) (spec.tree_at true self.now.depth) tokens.old) result tokens.new }
+        ensures { Reads (spec.primary (spec.below self.now.depth) tokens.old) result tokens.new }
     {
         if tokens.sees(Terminal::Int) {
             int(tokens)
@@ -97,10 +95,10 @@ impl<F: Fn(Global, bool, usize, &mut Cursor<'_>) -> Result<Expr, Halt<NoTree>>> 
     }
 
     /// The labels of accesses, at most as many as the depth has levels.
-    #[tactic(auto, unfolding(crate::specs::ExprReader::accesses))]
+    #[tactic(auto, unfolding(expr_grammar::specs::ExprReader::accesses))]
     fn accesses(&self, tokens: &mut Cursor<'_>) -> Result<Items<Name>, Halt<NoTree>>
         requires { ReadsExprs self.now.depth (F.pre self.now.below) (F.post self.now.below) }
-        ensures { Reads (spec.accesses self.now.depth (spec.tree_at false self.now.depth) (spec.tree_at true self.now.depth) tokens.old) result tokens.new }
+        ensures { Reads (spec.accesses (spec.below self.now.depth) tokens.old) result tokens.new }
     {
         let found = labels(self.alloc, tokens)?;
         if found.len() <= self.depth {
@@ -111,56 +109,55 @@ impl<F: Fn(Global, bool, usize, &mut Cursor<'_>) -> Result<Expr, Halt<NoTree>>> 
     }
 
     /// An atom with its accesses.
-    #[tactic(auto, unfolding(crate::specs::ExprReader::atom))]
+    #[tactic(auto, unfolding(expr_grammar::specs::ExprReader::atom))]
     pub fn atom(&self, tokens: &mut Cursor<'_>) -> Result<Expr, Halt<NoTree>>
         requires { ReadsExprs self.now.depth (F.pre self.now.below) (F.post self.now.below) }
-        ensures { Reads (spec.atom self.now.depth (spec.tree_at false self.now.depth) (spec.tree_at true self.now.depth) tokens.old) result tokens.new }
+        ensures { Reads (spec.atom (spec.below self.now.depth) tokens.old) result tokens.new }
     {
         let at = tokens.here()?;
-        let whole = self.primary(tokens)?;
-        let labels = self.accesses(tokens)?;
+        let (whole, labels) = paired(self.primary(tokens)?, self.accesses(tokens))?;
         Ok(accessed(self.alloc, at, whole, labels)?)
     }
 
     fn arguments(&self, tokens: &mut Cursor<'_>) -> Result<Items<Expr>, Halt<NoTree>>
         requires { ReadsExprs self.now.depth (F.pre self.now.below) (F.post self.now.below) }
-        ensures { Reads (many spec.atoms_begin (spec.atom self.now.depth (spec.tree_at false self.now.depth) (spec.tree_at true self.now.depth)) tokens.old) result tokens.new }
+        ensures { Reads (spec.arguments (spec.below self.now.depth) tokens.old) result tokens.new }
     {
-        let mut found = Items::new(self.alloc);
-        'turns: while begins_atom(tokens) {
-            found.push(self.atom(tokens)?)?;
-        }
-        Ok(found)
+        many(
+            self.alloc,
+            &ATOMS,
+            |tokens: &mut Cursor<'_>| self.atom(tokens),
+            tokens,
+        )
     }
 
-    #[tactic(auto, unfolding(crate::specs::ExprReader::application))]
+    #[tactic(auto, unfolding(expr_grammar::specs::ExprReader::application))]
     fn application(&self, tokens: &mut Cursor<'_>) -> Result<Expr, Halt<NoTree>>
         requires { ReadsExprs self.now.depth (F.pre self.now.below) (F.post self.now.below) }
-        ensures { Reads (spec.application self.now.depth (spec.tree_at false self.now.depth) (spec.tree_at true self.now.depth) tokens.old) result tokens.new }
+        ensures { Reads (spec.application (spec.below self.now.depth) tokens.old)
+            result tokens.new }
     {
         let at = tokens.here()?;
-        let function = self.atom(tokens)?;
-        let arguments = self.arguments(tokens)?;
+        let (function, arguments) = paired(self.atom(tokens)?, self.arguments(tokens))?;
         Ok(applied(self.alloc, at, function, arguments)?)
     }
 
-    #[tactic(auto, unfolding(crate::specs::ExprReader::negation))]
+    #[tactic(auto, unfolding(expr_grammar::specs::ExprReader::negation))]
     fn negation(&self, tokens: &mut Cursor<'_>) -> Result<Expr, Halt<NoTree>>
         requires { ReadsExprs self.now.depth (F.pre self.now.below) (F.post self.now.below) }
-        ensures { Reads (spec.negation self.now.depth (spec.tree_at false self.now.depth) (spec.tree_at true self.now.depth) tokens.old) result tokens.new }
+        ensures { Reads (spec.negation (spec.below self.now.depth) tokens.old) result tokens.new }
     {
         let at = tokens.here()?;
         tokens.expect(Terminal::Minus)?;
-        let inner = self.application(tokens)?;
-        let inner = Boxed::new(self.alloc, inner)?;
+        let inner = Boxed::new(self.alloc, self.application(tokens)?)?;
         Ok(Expr::Negate { at, inner })
     }
 
     /// What stands between operators: an application, or the negation of one.
-    #[tactic(auto, unfolding(crate::specs::ExprReader::operand))]
+    #[tactic(auto, unfolding(expr_grammar::specs::ExprReader::operand))]
     pub fn operand(&self, tokens: &mut Cursor<'_>) -> Result<Expr, Halt<NoTree>>
         requires { ReadsExprs self.now.depth (F.pre self.now.below) (F.post self.now.below) }
-        ensures { Reads (spec.operand self.now.depth (spec.tree_at false self.now.depth) (spec.tree_at true self.now.depth) tokens.old) result tokens.new }
+        ensures { Reads (spec.operand (spec.below self.now.depth) tokens.old) result tokens.new }
     {
         if tokens.sees(Terminal::Minus) {
             self.negation(tokens)

@@ -1,13 +1,13 @@
 //! Atoms without parts.
-ghost use Rattle.pattern_parser.specs.Reader.{Reads};
-ghost use Rattle.expr_parser.specs.ExprReader as spec;
+ghost use Rattle.grammar.specs.Reader.{Reads};
+ghost use Rattle.expr_grammar.specs.ExprReader as spec;
 
 use crate::operators::any_lower;
 use elm_base::{Expr, Halt};
-use pattern_parser::{Cursor, NoTree, Terminal};
+use grammar::{Cursor, NoTree, Terminal};
 use std::alloc::Global;
 
-#[tactic(auto, unfolding(crate::specs::ExprReader::int))]
+#[tactic(auto, unfolding(expr_grammar::specs::ExprReader::int))]
 pub fn int(tokens: &mut Cursor<'_>) -> Result<Expr, Halt<NoTree>>
     ensures { Reads (spec.int tokens.old) result tokens.new }
 {
@@ -16,7 +16,7 @@ pub fn int(tokens: &mut Cursor<'_>) -> Result<Expr, Halt<NoTree>>
     Ok(Expr::Int { at, value })
 }
 
-#[tactic(auto, unfolding(crate::specs::ExprReader::char_))]
+#[tactic(auto, unfolding(expr_grammar::specs::ExprReader::char_))]
 pub fn character(alloc: Global, tokens: &mut Cursor<'_>) -> Result<Expr, Halt<NoTree>>
     ensures { Reads (spec.char_ tokens.old) result tokens.new }
 {
@@ -25,7 +25,7 @@ pub fn character(alloc: Global, tokens: &mut Cursor<'_>) -> Result<Expr, Halt<No
     Ok(Expr::Char { at, value })
 }
 
-#[tactic(auto, unfolding(crate::specs::ExprReader::text))]
+#[tactic(auto, unfolding(expr_grammar::specs::ExprReader::text))]
 pub fn text(alloc: Global, tokens: &mut Cursor<'_>) -> Result<Expr, Halt<NoTree>>
     ensures { Reads (spec.text tokens.old) result tokens.new }
 {
@@ -34,7 +34,7 @@ pub fn text(alloc: Global, tokens: &mut Cursor<'_>) -> Result<Expr, Halt<NoTree>
     Ok(Expr::Text { at, value })
 }
 
-#[tactic(auto, unfolding(crate::specs::ExprReader::variable))]
+#[tactic(auto, unfolding(expr_grammar::specs::ExprReader::variable))]
 pub fn variable(alloc: Global, tokens: &mut Cursor<'_>) -> Result<Expr, Halt<NoTree>>
     ensures { Reads (spec.variable tokens.old) result tokens.new }
 {
@@ -43,7 +43,7 @@ pub fn variable(alloc: Global, tokens: &mut Cursor<'_>) -> Result<Expr, Halt<NoT
     Ok(Expr::Variable { at, name })
 }
 
-#[tactic(auto, unfolding(crate::specs::ExprReader::constructor))]
+#[tactic(auto, unfolding(expr_grammar::specs::ExprReader::constructor))]
 pub fn constructor(alloc: Global, tokens: &mut Cursor<'_>) -> Result<Expr, Halt<NoTree>>
     ensures { Reads (spec.constructor tokens.old) result tokens.new }
 {
@@ -52,7 +52,7 @@ pub fn constructor(alloc: Global, tokens: &mut Cursor<'_>) -> Result<Expr, Halt<
     Ok(Expr::Constructor { at, name })
 }
 
-#[tactic(auto, unfolding(crate::specs::ExprReader::field_function))]
+#[tactic(auto, unfolding(expr_grammar::specs::ExprReader::field_function))]
 pub fn field_function(alloc: Global, tokens: &mut Cursor<'_>) -> Result<Expr, Halt<NoTree>>
     ensures { Reads (spec.field_function tokens.old) result tokens.new }
 {

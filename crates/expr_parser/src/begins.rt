@@ -1,60 +1,70 @@
 //! What the parts of expressions begin with.
-ghost use Rattle.std.specs.Prelude.{◌≡◌, [], ◌∷◌};
-ghost use Rattle.pattern_parser.specs.declared.terminal.Terminal.TheVariants as k;
-ghost use Rattle.pattern_parser.specs.Terminals.{starts};
-ghost use Rattle.expr_parser.specs.ExprReader as spec;
+use grammar::Terminal;
 
-use pattern_parser::{Cursor, Terminal};
+/// An operator that is no name in backticks.
+pub const SIGNS: [Terminal; 3] = [Terminal::Operator, Terminal::Minus, Terminal::Cons];
 
-pub fn begins_sign(tokens: &Cursor<'_>) -> bool
-    ensures { result ≡ starts spec.signs_begin tokens.now }
-{
-    tokens.sees(Terminal::Operator) || tokens.sees(Terminal::Minus) || tokens.sees(Terminal::Cons)
-}
+/// What an operator between operands begins with.
+pub const OPERATORS: [Terminal; 4] = [
+    Terminal::Operator,
+    Terminal::Minus,
+    Terminal::Cons,
+    Terminal::Backtick,
+];
 
-pub fn begins_operator(tokens: &Cursor<'_>) -> bool
-    ensures { result ≡ starts spec.operators_begin tokens.now }
-{
-    begins_sign(tokens) || tokens.sees(Terminal::Backtick)
-}
+/// What an atom begins with.
+pub const ATOMS: [Terminal; 10] = [
+    Terminal::Int,
+    Terminal::Char,
+    Terminal::Text,
+    Terminal::Lower,
+    Terminal::QualifiedLower,
+    Terminal::Upper,
+    Terminal::FieldFunction,
+    Terminal::LeftParen,
+    Terminal::LeftBracket,
+    Terminal::LeftBrace,
+];
 
-fn begins_literal(tokens: &Cursor<'_>) -> bool
-    ensures { result ≡ starts (k.Int ∷ k.Char ∷ k.Text ∷ []) tokens.now }
-{
-    tokens.sees(Terminal::Int) || tokens.sees(Terminal::Char) || tokens.sees(Terminal::Text)
-}
+/// What begins a form that takes all that stands behind it.
+pub const LAST_FORMS: [Terminal; 4] = [
+    Terminal::Backslash,
+    Terminal::If,
+    Terminal::Let,
+    Terminal::Case,
+];
 
-fn begins_name(tokens: &Cursor<'_>) -> bool
-    ensures { result ≡ starts (k.Lower ∷ k.QualifiedLower ∷ k.Upper ∷ k.FieldFunction ∷ []) tokens.now }
-{
-    tokens.sees(Terminal::Lower)
-        || tokens.sees(Terminal::QualifiedLower)
-        || tokens.sees(Terminal::Upper)
-        || tokens.sees(Terminal::FieldFunction)
-}
+/// What an expression begins with.
+pub const EXPRESSIONS: [Terminal; 15] = [
+    Terminal::Backslash,
+    Terminal::If,
+    Terminal::Let,
+    Terminal::Case,
+    Terminal::Minus,
+    Terminal::Int,
+    Terminal::Char,
+    Terminal::Text,
+    Terminal::Lower,
+    Terminal::QualifiedLower,
+    Terminal::Upper,
+    Terminal::FieldFunction,
+    Terminal::LeftParen,
+    Terminal::LeftBracket,
+    Terminal::LeftBrace,
+];
 
-pub fn begins_atom(tokens: &Cursor<'_>) -> bool
-    ensures { result ≡ starts spec.atoms_begin tokens.now }
-{
-    begins_literal(tokens)
-        || begins_name(tokens)
-        || tokens.sees(Terminal::LeftParen)
-        || tokens.sees(Terminal::LeftBracket)
-        || tokens.sees(Terminal::LeftBrace)
-}
+/// What begins the left side of a definition.
+pub const DEFINITIONS: [Terminal; 3] = [Terminal::Lower, Terminal::LeftParen, Terminal::LeftBrace];
 
-/// Whether the next token begins a form that takes all that stands behind it.
-pub fn begins_last_form(tokens: &Cursor<'_>) -> bool
-    ensures { result ≡ starts spec.last_forms_begin tokens.now }
-{
-    tokens.sees(Terminal::Backslash)
-        || tokens.sees(Terminal::If)
-        || tokens.sees(Terminal::Let)
-        || tokens.sees(Terminal::Case)
-}
-
-pub fn begins_expression(tokens: &Cursor<'_>) -> bool
-    ensures { result ≡ starts spec.expressions_begin tokens.now }
-{
-    begins_last_form(tokens) || tokens.sees(Terminal::Minus) || begins_atom(tokens)
-}
+/// What a pattern begins with.
+pub const PATTERNS: [Terminal; 9] = [
+    Terminal::Upper,
+    Terminal::Underscore,
+    Terminal::Lower,
+    Terminal::Int,
+    Terminal::Char,
+    Terminal::Text,
+    Terminal::LeftBracket,
+    Terminal::LeftParen,
+    Terminal::LeftBrace,
+];

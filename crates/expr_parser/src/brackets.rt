@@ -1,24 +1,26 @@
 //! Brackets: operators and tuple makers in brackets, `()`, an expression in brackets, and tuples.
-ghost use Rattle.std.specs.Prelude.{◌≡◌, ◌≤◌, true, false, [], ◌∷◌, IfOk};
-ghost use Rattle.pattern_parser.specs.Reader.{Reads, with_front};
-ghost use Rattle.expr_parser.specs.Expressions as grammar;
-ghost use Rattle.expr_parser.specs.ExprReader as spec;
+ghost use Rattle.std.specs.Prelude.{◌≡◌, ◌≤◌, false, [], ◌∷◌, length, IfOk};
+ghost use Rattle.grammar.specs.declared.terminal.Terminal.TheVariants as k;
+ghost use Rattle.grammar.specs.Reader.{Reads, mark};
+ghost use Rattle.grammar.specs.Lists as lists;
+ghost use Rattle.expr_grammar.specs.Expressions as grammar;
+ghost use Rattle.expr_grammar.specs.ExprReader as spec;
 ghost use Rattle.expr_parser.specs.ExprCalls.{ReadsExprs};
-ghost use Rattle.expr_parser.specs.Places.{counted, placed};
+ghost use Rattle.expr_parser.specs.Places.{placed};
 
-use crate::begins::{begins_expression, begins_sign};
+use crate::begins::{EXPRESSIONS, SIGNS};
 use crate::exprs::Exprs;
 use crate::operators::sign;
 use elm_base::{At, Expr, Halt};
-use pattern_parser::{Cursor, MOST_PARTS, NoTree, Terminal};
+use grammar::{Cursor, MOST_PARTS, NoTree, Terminal, separated, some, verified};
 use sqlite_items::{Boxed, Items};
 use std::alloc::{AllocError, Global};
 
 /// A tuple maker has at most so many commas.
-const MOST_COMMAS: u32 = 8;
+const MOST_COMMAS: usize = 8;
 
 /// An operator and the closing bracket behind it.
-#[tactic(auto, unfolding(crate::specs::ExprReader::operator_name))]
+#[tactic(auto, unfolding(expr_grammar::specs::ExprReader::operator_name))]
 fn operator_name(alloc: Global, at: At, tokens: &mut Cursor<'_>) -> Result<Expr, Halt<NoTree>>
     ensures { Reads (placed at spec.operator_name tokens.old) result tokens.new }
 {
@@ -27,34 +29,36 @@ fn operator_name(alloc: Global, at: At, tokens: &mut Cursor<'_>) -> Result<Expr,
     Ok(Expr::OperatorName { at, name })
 }
 
-/// The number of commas, one at least.
-fn commas(tokens: &mut Cursor<'_>) -> Result<u32, Halt<NoTree>>
-    ensures number { Reads (counted spec.commas tokens.old) result tokens.new }
-    ensures within { IfOk result (λ number. number ≤ MOST_COMMAS) }
+fn some_commas(alloc: Global, tokens: &mut Cursor<'_>) -> Result<Items<()>, Halt<NoTree>>
+    ensures { Reads (lists.some (k.Comma ∷ []) (mark k.Comma) tokens.old) result tokens.new }
 {
-    tokens.expect(Terminal::Comma)?;
-    let mut number = 1;
-    'turns: while tokens.sees(Terminal::Comma) {
-        if number == MOST_COMMAS {
-            return Err(Halt::Because(NoTree));
-        }
-        tokens.expect(Terminal::Comma)?;
-        number += 1;
+    let next = |tokens: &mut Cursor<'_>| tokens.expect(Terminal::Comma);
+    some(alloc, &[Terminal::Comma], next, tokens)
+}
+
+/// The commas of a tuple maker, one at least.
+#[tactic(auto, unfolding(expr_grammar::specs::ExprReader::commas))]
+fn commas(alloc: Global, tokens: &mut Cursor<'_>) -> Result<Items<()>, Halt<NoTree>>
+    ensures value { Reads (spec.commas tokens.old) result tokens.new }
+    ensures within { IfOk result (λ commas. length commas ≤ MOST_COMMAS) }
+{
+    let found = some_commas(alloc, tokens)?;
+    if found.len() <= MOST_COMMAS {
+        Ok(found)
+    } else {
+        Err(Halt::Because(NoTree))
     }
-    Ok(number)
 }
 
 /// Commas alone and the closing bracket behind them.
-#[tactic(auto, unfolding(crate::specs::ExprReader::tuple_maker))]
-fn tuple_maker(at: At, tokens: &mut Cursor<'_>) -> Result<Expr, Halt<NoTree>>
+#[tactic(auto, unfolding(expr_grammar::specs::ExprReader::tuple_maker))]
+fn tuple_maker(alloc: Global, at: At, tokens: &mut Cursor<'_>) -> Result<Expr, Halt<NoTree>>
     ensures { Reads (placed at spec.tuple_maker tokens.old) result tokens.new }
 {
-    let commas = commas(tokens)?;
+    let commas = commas(alloc, tokens)?;
     tokens.expect(Terminal::RightParen)?;
-    Ok(Expr::TupleMaker {
-        at,
-        parts: commas + 1,
-    })
+    let parts = commas.len() as u32 + 1;
+    Ok(Expr::TupleMaker { at, parts })
 }
 
 /// What brackets round these expressions make.
@@ -72,43 +76,24 @@ fn enclosed(alloc: Global, at: At, mut parts: Items<Expr>) -> Result<Expr, Alloc
 }
 
 impl<F: Fn(Global, bool, usize, &mut Cursor<'_>) -> Result<Expr, Halt<NoTree>>> Exprs<F> {
-    /// An expression behind a comma.
-    #[tactic(auto, unfolding(crate::specs::ExprReader::next))]
-    fn next(&self, tokens: &mut Cursor<'_>) -> Result<Expr, Halt<NoTree>>
+    /// One or more expressions with commas between.
+    fn wholes(&self, tokens: &mut Cursor<'_>) -> Result<Items<Expr>, Halt<NoTree>>
         requires { ReadsExprs self.now.depth (F.pre self.now.below) (F.post self.now.below) }
-        ensures { Reads (spec.next self.now.depth (spec.tree_at false self.now.depth) (spec.tree_at true self.now.depth) tokens.old) result tokens.new }
+        ensures { Reads (spec.wholes (spec.below self.now.depth) tokens.old) result tokens.new }
     {
-        tokens.expect(Terminal::Comma)?;
-        self.whole(tokens)
+        let next = |tokens: &mut Cursor<'_>| self.whole(tokens);
+        separated(self.alloc, next, tokens)
     }
 
-    /// Reads `first` and the expressions behind it, each after a comma.
-    pub fn parts_from(
-        &self,
-        first: Expr,
-        tokens: &mut Cursor<'_>,
-    ) -> Result<Items<Expr>, Halt<NoTree>>
-        requires { ReadsExprs self.now.depth (F.pre self.now.below) (F.post self.now.below) }
-        ensures { Reads (with_front (first ∷ []) (spec.more self.now.depth (spec.tree_at false self.now.depth) (spec.tree_at true self.now.depth) tokens.old)) result tokens.new }
-    {
-        let mut found = Items::new(self.alloc);
-        found.push(first)?;
-        'turns: while tokens.sees(Terminal::Comma) {
-            found.push(self.next(tokens)?)?;
-        }
-        Ok(found)
-    }
-
-    #[tactic(auto, unfolding(crate::specs::ExprReader::any_parts))]
+    #[tactic(auto, unfolding(expr_grammar::specs::ExprReader::any_parts))]
     fn any_parts(&self, tokens: &mut Cursor<'_>) -> Result<Items<Expr>, Halt<NoTree>>
         requires { ReadsExprs self.now.depth (F.pre self.now.below) (F.post self.now.below) }
-        ensures { Reads (spec.any_parts self.now.depth (spec.tree_at false self.now.depth) (spec.tree_at true self.now.depth) tokens.old) result tokens.new }
+        ensures { Reads (spec.any_parts (spec.below self.now.depth) tokens.old) result tokens.new }
     {
-        if !begins_expression(tokens) {
+        if !tokens.sees_any(&EXPRESSIONS) {
             return Ok(Items::new(self.alloc));
         }
-        let first = self.whole(tokens)?;
-        let found = self.parts_from(first, tokens)?;
+        let found = self.wholes(tokens)?;
         if found.len() <= MOST_PARTS {
             Ok(found)
         } else {
@@ -117,35 +102,37 @@ impl<F: Fn(Global, bool, usize, &mut Cursor<'_>) -> Result<Expr, Halt<NoTree>>> 
     }
 
     /// No expression, one, or the parts of a tuple, and the closing bracket.
-    #[tactic(auto, unfolding(crate::specs::ExprReader::parts))]
+    #[tactic(auto, unfolding(expr_grammar::specs::ExprReader::parts))]
     fn parts(&self, at: At, tokens: &mut Cursor<'_>) -> Result<Expr, Halt<NoTree>>
         requires { ReadsExprs self.now.depth (F.pre self.now.below) (F.post self.now.below) }
-        ensures { Reads (placed at (spec.parts self.now.depth (spec.tree_at false self.now.depth) (spec.tree_at true self.now.depth)) tokens.old) result tokens.new }
+        ensures { Reads (placed at (spec.parts (spec.below self.now.depth)) tokens.old)
+            result tokens.new }
     {
         let parts = self.any_parts(tokens)?;
         tokens.expect(Terminal::RightParen)?;
         Ok(enclosed(self.alloc, at, parts)?)
     }
 
-    #[tactic(auto, unfolding(crate::specs::ExprReader::inside_brackets))]
+    #[tactic(auto, unfolding(expr_grammar::specs::ExprReader::inside_brackets))]
     fn inside_brackets(&self, at: At, tokens: &mut Cursor<'_>) -> Result<Expr, Halt<NoTree>>
         requires { ReadsExprs self.now.depth (F.pre self.now.below) (F.post self.now.below) }
-        ensures { Reads (placed at (spec.inside_brackets self.now.depth (spec.tree_at false self.now.depth) (spec.tree_at true self.now.depth)) tokens.old) result tokens.new }
+        ensures { Reads (placed at (spec.inside_brackets (spec.below self.now.depth)) tokens.old)
+            result tokens.new }
     {
-        if begins_sign(tokens) && tokens.sees_second(Terminal::RightParen) {
+        if tokens.sees_any(&SIGNS) && tokens.sees_second(Terminal::RightParen) {
             operator_name(self.alloc, at, tokens)
         } else if tokens.sees(Terminal::Comma) {
-            tuple_maker(at, tokens)
+            tuple_maker(self.alloc, at, tokens)
         } else {
             self.parts(at, tokens)
         }
     }
 
     /// All that stands in round brackets.
-    #[tactic(auto, unfolding(crate::specs::ExprReader::brackets))]
+    #[tactic(auto, unfolding(expr_grammar::specs::ExprReader::brackets))]
     pub fn brackets(&self, tokens: &mut Cursor<'_>) -> Result<Expr, Halt<NoTree>>
         requires { ReadsExprs self.now.depth (F.pre self.now.below) (F.post self.now.below) }
-        ensures { Reads (spec.brackets self.now.depth (spec.tree_at false self.now.depth) (spec.tree_at true self.now.depth) tokens.old) result tokens.new }
+        ensures { Reads (spec.brackets (spec.below self.now.depth) tokens.old) result tokens.new }
     {
         let at = tokens.here()?;
         tokens.expect(Terminal::LeftParen)?;

@@ -1,15 +1,15 @@
 //! All of a list of tokens as one expression.
-ghost use Rattle.std.specs.Prelude.{◌≡◌, ◌≢◌, ◌≤◌, List, map, IfOk, IfErr, MatchResult};
+ghost use Rattle.std.specs.Prelude.{◌≡◌, ◌≢◌, ◌≤◌, map, IfOk, IfErr, MatchResult};
 ghost use Rattle.elm_base.specs.declared.memory.Halt.TheVariants as halt;
 ghost use Rattle.elm_base.specs.declared.tree.Expr.{Expr};
-ghost use Rattle.pattern_parser.specs.Terminals.{Lexeme, lexeme};
-ghost use Rattle.expr_parser.specs.Expressions.{DerivesExpr};
+ghost use Rattle.elm_base.specs.Lexemes.{lexeme};
+ghost use Rattle.expr_grammar.specs.Expressions.{DerivesExpr};
 ghost use Rattle.tree_nesting.specs.Nesting.{max_nesting};
 ghost use Rattle.tree_nesting.specs.ExpressionNesting.{expr_nesting};
 
 use crate::chains::tree_at;
 use elm_base::{Expr, Halt, Token};
-use pattern_parser::{Cursor, NoTree};
+use grammar::{Cursor, NoTree, entire};
 use std::alloc::Global;
 use tree_nesting::{MOST_NESTING, expr_nests_within};
 
@@ -24,23 +24,14 @@ pub fn expr(alloc: Global, tokens: &[Token<'_>]) -> Result<Expr, Halt<NoTree>>
     ensures derives { IfOk result (λ tree. DerivesExpr (map lexeme tokens.now) tree) }
     ensures nests { IfOk result (λ tree. expr_nesting tree ≤ max_nesting) }
     // An expression that derives and nests so is given, unless memory runs out.
-    ensures found { (tree : Expr) → DerivesExpr (map lexeme tokens.now) tree → expr_nesting tree ≤ max_nesting →
-        MatchResult result (λ found. found ≡ tree) (λ cause. cause ≡ halt.NoMemory) }
-    ensures refused { IfErr result (λ cause. cause ≢ halt.NoMemory → (tree : Expr) → DerivesExpr (map lexeme tokens.now) tree →
-        expr_nesting tree ≤ max_nesting → ⊥) }
+    ensures found { (tree : Expr) → DerivesExpr (map lexeme tokens.now) tree
+        → expr_nesting tree ≤ max_nesting
+        → MatchResult result (λ found. found ≡ tree) (λ cause. cause ≡ halt.NoMemory) }
+    ensures refused { IfErr result (λ cause. cause ≢ halt.NoMemory → (tree : Expr)
+        → DerivesExpr (map lexeme tokens.now) tree → expr_nesting tree ≤ max_nesting → ⊥) }
 {
     let mut cursor = Cursor::new(tokens);
     let found = tree_at(alloc, false, DEPTH, &mut cursor)?;
-    if !cursor.is_empty() {
-        return Err(Halt::Because(NoTree));
-    }
-    if !expr_nests_within(&found, MOST_NESTING) {
-        return Err(Halt::Because(NoTree));
-    }
-    Ok(found)
+    let nests = expr_nests_within(&found, MOST_NESTING);
+    entire(found, &cursor, nests)
 }
-
-/// A list of tokens stands for at most one expression, however deep it nests.
-pub fn one_expr()
-    ensures { (ts : List Lexeme) (x y : Expr) → DerivesExpr ts x → DerivesExpr ts y → x ≡ y }
-{}

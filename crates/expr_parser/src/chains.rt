@@ -2,19 +2,27 @@
 ghost use Rattle.std.specs.Prelude.{◌≡◌, true, false, [], ◌∷◌, List, map, IfOk};
 ghost use Rattle.elm_base.specs.declared.tree.Operator.{Operator};
 ghost use Rattle.elm_base.specs.declared.tree.Expr.{Expr};
-ghost use Rattle.pattern_parser.specs.Reader.{Reads};
-ghost use Rattle.expr_parser.specs.Expressions as grammar;
-ghost use Rattle.expr_parser.specs.ExprReader as spec;
+ghost use Rattle.grammar.specs.Reader.{Reads};
+ghost use Rattle.expr_grammar.specs.Expressions as grammar;
+ghost use Rattle.expr_grammar.specs.ExprReader as spec;
 ghost use Rattle.expr_parser.specs.ExprCalls.{ReadsExprs};
-ghost use Rattle.expr_parser.specs.Chains.{apart, separately};
+ghost use Rattle.expr_parser.specs.Chains.{Added, apart, separately};
 
-use crate::begins::{begins_last_form, begins_operator};
+use crate::begins::{LAST_FORMS, OPERATORS};
 use crate::exprs::Exprs;
 use crate::operators::operator;
 use elm_base::{At, Expr, Halt, Operator};
-use pattern_parser::{Cursor, NoTree, Terminal};
+use grammar::{Cursor, NoTree, Terminal, paired};
 use sqlite_items::Items;
 use std::alloc::{AllocError, Global};
+
+/// Puts what was read behind the items.
+fn add<T: Drop>(items: &mut Items<T>, read: Result<T, Halt<NoTree>>) -> Result<(), Halt<NoTree>>
+    ensures { Added read items.old items.new result }
+{
+    items.push(read?)?;
+    Ok(())
+}
 
 /// What a first operand makes with the operators and operands behind it.
 fn chained(
@@ -24,7 +32,8 @@ fn chained(
     operators: Items<Operator>,
     operands: Items<Expr>,
 ) -> Result<Expr, AllocError>
-    ensures { (links : List (Operator × Expr)) → apart links ≡ (operators, operands) → IfOk result (λ tree. tree ≡ grammar.chained (at, (first, links))) }
+    ensures { (links : List (Operator × Expr)) → apart links ≡ (operators, operands)
+        → IfOk result (λ tree. tree ≡ grammar.chained (at, (first, links))) }
 {
     if operators.is_empty() {
         return Ok(first);
@@ -65,10 +74,10 @@ pub fn tree_at(
 
 impl<F: Fn(Global, bool, usize, &mut Cursor<'_>) -> Result<Expr, Halt<NoTree>>> Exprs<F> {
     /// A form that takes all that stands behind it.
-    #[tactic(auto, unfolding(crate::specs::ExprReader::last_form))]
+    #[tactic(auto, unfolding(expr_grammar::specs::ExprReader::last_form))]
     fn last_form(&self, tokens: &mut Cursor<'_>) -> Result<Expr, Halt<NoTree>>
         requires { ReadsExprs self.now.depth (F.pre self.now.below) (F.post self.now.below) }
-        ensures { Reads (spec.last_form self.now.depth (spec.tree_at false self.now.depth) (spec.tree_at true self.now.depth) tokens.old) result tokens.new }
+        ensures { Reads (spec.last_form (spec.below self.now.depth) tokens.old) result tokens.new }
     {
         if tokens.sees(Terminal::Backslash) {
             self.lambda(tokens)
@@ -81,41 +90,55 @@ impl<F: Fn(Global, bool, usize, &mut Cursor<'_>) -> Result<Expr, Halt<NoTree>>> 
         }
     }
 
+    /// What stands behind an operator: a form that takes all that stands behind it, or an operand.
+    fn linked(&self, tokens: &mut Cursor<'_>) -> Result<Expr, Halt<NoTree>>
+        requires { ReadsExprs self.now.depth (F.pre self.now.below) (F.post self.now.below) }
+        ensures { Reads (spec.linked_operand (spec.below self.now.depth) tokens.old)
+            result tokens.new }
+    {
+        if tokens.sees_any(&LAST_FORMS) {
+            self.last_form(tokens)
+        } else {
+            self.operand(tokens)
+        }
+    }
+
     /// The operators and operands behind the first operand. A form that takes all that stands behind it is the last of them.
     fn links(&self, tokens: &mut Cursor<'_>) -> Result<(Items<Operator>, Items<Expr>), Halt<NoTree>>
         requires { ReadsExprs self.now.depth (F.pre self.now.below) (F.post self.now.below) }
-        ensures { Reads (separately (spec.links self.now.depth (spec.tree_at false self.now.depth) (spec.tree_at true self.now.depth)) tokens.old) result tokens.new }
+        ensures { Reads (separately (spec.links (spec.below self.now.depth)) tokens.old)
+            result tokens.new }
     {
         let mut operators = Items::new(self.alloc);
         let mut operands = Items::new(self.alloc);
-        'turns: while begins_operator(tokens) {
-            operators.push(operator(self.alloc, tokens)?)?;
-            if begins_last_form(tokens) {
-                operands.push(self.last_form(tokens)?)?;
+        'turns: while tokens.sees_any(&OPERATORS) {
+            add(&mut operators, operator(self.alloc, tokens))?;
+            let is_last = tokens.sees_any(&LAST_FORMS);
+            add(&mut operands, self.linked(tokens))?;
+            if is_last {
                 return Ok((operators, operands));
             }
-            operands.push(self.operand(tokens)?)?;
         }
         Ok((operators, operands))
     }
 
     fn chain(&self, tokens: &mut Cursor<'_>) -> Result<Expr, Halt<NoTree>>
         requires { ReadsExprs self.now.depth (F.pre self.now.below) (F.post self.now.below) }
-        ensures { Reads (spec.chain self.now.depth (spec.tree_at false self.now.depth) (spec.tree_at true self.now.depth) tokens.old) result tokens.new }
+        ensures { Reads (spec.chain (spec.below self.now.depth) tokens.old) result tokens.new }
     {
         let at = tokens.here()?;
-        let first = self.operand(tokens)?;
-        let (operators, operands) = self.links(tokens)?;
+        let (first, links) = paired(self.operand(tokens)?, self.links(tokens))?;
+        let (operators, operands) = links;
         Ok(chained(self.alloc, at, first, operators, operands)?)
     }
 
     /// A whole expression.
-    #[tactic(auto, unfolding(crate::specs::ExprReader::level))]
+    #[tactic(auto, unfolding(expr_grammar::specs::ExprReader::level))]
     fn level(&self, tokens: &mut Cursor<'_>) -> Result<Expr, Halt<NoTree>>
         requires { ReadsExprs self.now.depth (F.pre self.now.below) (F.post self.now.below) }
-        ensures { Reads (spec.level self.now.depth (spec.tree_at false self.now.depth) (spec.tree_at true self.now.depth) tokens.old) result tokens.new }
+        ensures { Reads (spec.level (spec.below self.now.depth) tokens.old) result tokens.new }
     {
-        if begins_last_form(tokens) {
+        if tokens.sees_any(&LAST_FORMS) {
             self.last_form(tokens)
         } else {
             self.chain(tokens)

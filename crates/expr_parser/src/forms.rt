@@ -1,85 +1,75 @@
 //! Lambdas and conditional expressions.
-ghost use Rattle.std.specs.Prelude.{true, false, [], ◌∷◌};
-ghost use Rattle.pattern_parser.specs.Reader.{Reads, with_front};
-ghost use Rattle.expr_parser.specs.ExprReader as spec;
+ghost use Rattle.grammar.specs.Reader.{Reads};
+ghost use Rattle.expr_grammar.specs.ExprReader as spec;
 ghost use Rattle.expr_parser.specs.ExprCalls.{ReadsExprs};
 ghost use Rattle.expr_parser.specs.Places.{placed};
 
-use crate::begins::begins_expression;
+use crate::begins::{EXPRESSIONS, PATTERNS};
 use crate::exprs::Exprs;
 use crate::shapes::ends_in_guards;
 use elm_base::{At, Expr, Halt, Pattern};
-use pattern_parser::{Cursor, NoTree, Terminal, begins_pattern, part_at};
-use sqlite_items::{Boxed, Items};
+use grammar::{Cursor, NoTree, Terminal, many, paired, some, verified};
+use pattern_parser::part_at;
+use sqlite_items::Items;
 use std::alloc::Global;
 
 impl<F: Fn(Global, bool, usize, &mut Cursor<'_>) -> Result<Expr, Halt<NoTree>>> Exprs<F> {
     /// A pattern that may stand as a parameter.
-    #[tactic(auto, unfolding(crate::specs::ExprReader::parameter))]
     fn parameter(&self, tokens: &mut Cursor<'_>) -> Result<Pattern, Halt<NoTree>>
         requires { ReadsExprs self.now.depth (F.pre self.now.below) (F.post self.now.below) }
-        ensures { Reads (spec.parameter self.now.depth (spec.tree_at false self.now.depth) (spec.tree_at true self.now.depth) tokens.old) result tokens.new }
+        ensures { Reads (spec.parameter (spec.below self.now.depth) tokens.old) result tokens.new }
     {
         part_at(self.alloc, self.depth, tokens)
     }
 
-    /// Those that were found, and the parameters behind them.
-    fn parameters_behind(
-        &self,
-        mut found: Items<Pattern>,
-        tokens: &mut Cursor<'_>,
-    ) -> Result<Items<Pattern>, Halt<NoTree>>
-        requires { ReadsExprs self.now.depth (F.pre self.now.below) (F.post self.now.below) }
-        ensures { Reads (with_front found ((spec.parameters self.now.depth (spec.tree_at false self.now.depth) (spec.tree_at true self.now.depth)) tokens.old)) result tokens.new }
-    {
-        'turns: while begins_pattern(tokens) {
-            found.push(self.parameter(tokens)?)?;
-        }
-        Ok(found)
-    }
-
     pub fn parameters(&self, tokens: &mut Cursor<'_>) -> Result<Items<Pattern>, Halt<NoTree>>
         requires { ReadsExprs self.now.depth (F.pre self.now.below) (F.post self.now.below) }
-        ensures { Reads (spec.parameters self.now.depth (spec.tree_at false self.now.depth) (spec.tree_at true self.now.depth) tokens.old) result tokens.new }
+        ensures { Reads (spec.parameters (spec.below self.now.depth) tokens.old) result tokens.new }
     {
-        self.parameters_behind(Items::new(self.alloc), tokens)
+        many(
+            self.alloc,
+            &PATTERNS,
+            |tokens: &mut Cursor<'_>| self.parameter(tokens),
+            tokens,
+        )
     }
 
     /// One or more parameters.
-    #[tactic(auto, unfolding(crate::specs::ExprReader::some_parameters))]
     fn some_parameters(&self, tokens: &mut Cursor<'_>) -> Result<Items<Pattern>, Halt<NoTree>>
         requires { ReadsExprs self.now.depth (F.pre self.now.below) (F.post self.now.below) }
-        ensures { Reads (spec.some_parameters self.now.depth (spec.tree_at false self.now.depth) (spec.tree_at true self.now.depth) tokens.old) result tokens.new }
+        ensures { Reads (spec.some_parameters (spec.below self.now.depth) tokens.old)
+            result tokens.new }
     {
-        let mut first = Items::new(self.alloc);
-        first.push(self.parameter(tokens)?)?;
-        self.parameters_behind(first, tokens)
+        some(
+            self.alloc,
+            &PATTERNS,
+            |tokens: &mut Cursor<'_>| self.parameter(tokens),
+            tokens,
+        )
     }
 
-    #[tactic(auto, unfolding(crate::specs::ExprReader::lambda))]
+    #[tactic(auto, unfolding(expr_grammar::specs::ExprReader::lambda))]
     pub fn lambda(&self, tokens: &mut Cursor<'_>) -> Result<Expr, Halt<NoTree>>
         requires { ReadsExprs self.now.depth (F.pre self.now.below) (F.post self.now.below) }
-        ensures { Reads (spec.lambda self.now.depth (spec.tree_at false self.now.depth) (spec.tree_at true self.now.depth) tokens.old) result tokens.new }
+        ensures { Reads (spec.lambda (spec.below self.now.depth) tokens.old) result tokens.new }
     {
         let at = tokens.here()?;
         tokens.expect(Terminal::Backslash)?;
         let patterns = self.some_parameters(tokens)?;
-        tokens.expect(Terminal::Arrow)?;
-        let body = Boxed::new(self.alloc, self.whole(tokens)?)?;
+        let body = self.boxed_behind(Terminal::Arrow, tokens)?;
         Ok(Expr::Lambda { at, patterns, body })
     }
 
     /// Behind `if`: a condition and an expression for either case.
-    #[tactic(auto, unfolding(crate::specs::ExprReader::two_way))]
+    #[tactic(auto, unfolding(expr_grammar::specs::ExprReader::two_way))]
     fn two_way(&self, at: At, tokens: &mut Cursor<'_>) -> Result<Expr, Halt<NoTree>>
         requires { ReadsExprs self.now.depth (F.pre self.now.below) (F.post self.now.below) }
-        ensures { Reads (placed at (spec.two_way self.now.depth (spec.tree_at false self.now.depth) (spec.tree_at true self.now.depth)) tokens.old) result tokens.new }
+        ensures { Reads (placed at (spec.two_way (spec.below self.now.depth)) tokens.old)
+            result tokens.new }
     {
-        let condition = Boxed::new(self.alloc, self.whole(tokens)?)?;
-        tokens.expect(Terminal::Then)?;
-        let yes = Boxed::new(self.alloc, self.whole(tokens)?)?;
-        tokens.expect(Terminal::Else)?;
-        let no = Boxed::new(self.alloc, self.whole(tokens)?)?;
+        let condition = self.boxed(tokens)?;
+        let yes = self.boxed_behind(Terminal::Then, tokens)?;
+        let no = self.boxed_behind(Terminal::Else, tokens)?;
         Ok(Expr::If {
             at,
             condition,
@@ -88,51 +78,64 @@ impl<F: Fn(Global, bool, usize, &mut Cursor<'_>) -> Result<Expr, Halt<NoTree>>> 
         })
     }
 
+    /// An expression that doesn't end in a multi-way `if`.
+    fn closed(&self, tokens: &mut Cursor<'_>) -> Result<Expr, Halt<NoTree>>
+        requires { ReadsExprs self.now.depth (F.pre self.now.below) (F.post self.now.below) }
+        ensures { Reads (spec.closed (spec.below self.now.depth) tokens.old) result tokens.new }
+    {
+        let tree = self.whole(tokens)?;
+        let passes = !ends_in_guards(&tree);
+        verified(tree, passes, Halt::Because(NoTree))
+    }
+
+    fn chosen(&self, tokens: &mut Cursor<'_>) -> Result<Expr, Halt<NoTree>>
+        requires { ReadsExprs self.now.depth (F.pre self.now.below) (F.post self.now.below) }
+        ensures { Reads (spec.chosen (spec.below self.now.depth) tokens.old) result tokens.new }
+    {
+        tokens.expect(Terminal::Arrow)?;
+        self.closed(tokens)
+    }
+
     /// A branch of a multi-way `if`. It doesn't end in another, since the next branch would be of either.
-    #[tactic(auto, unfolding(crate::specs::ExprReader::guard))]
+    #[tactic(auto, unfolding(expr_grammar::specs::ExprReader::guard))]
     fn guard(&self, tokens: &mut Cursor<'_>) -> Result<(Expr, Expr), Halt<NoTree>>
         requires { ReadsExprs self.now.depth (F.pre self.now.below) (F.post self.now.below) }
-        ensures { Reads (spec.guard self.now.depth (spec.tree_at false self.now.depth) (spec.tree_at true self.now.depth) tokens.old) result tokens.new }
+        ensures { Reads (spec.guard (spec.below self.now.depth) tokens.old) result tokens.new }
     {
-        tokens.expect(Terminal::Bar)?;
-        let condition = self.whole(tokens)?;
-        tokens.expect(Terminal::Arrow)?;
-        let chosen = self.whole(tokens)?;
-        if ends_in_guards(&chosen) {
-            return Err(Halt::Because(NoTree));
-        }
-        Ok((condition, chosen))
+        paired(self.behind(Terminal::Bar, tokens)?, self.chosen(tokens))
     }
 
     fn guards(&self, tokens: &mut Cursor<'_>) -> Result<Items<(Expr, Expr)>, Halt<NoTree>>
         requires { ReadsExprs self.now.depth (F.pre self.now.below) (F.post self.now.below) }
-        ensures { Reads (spec.guards self.now.depth (spec.tree_at false self.now.depth) (spec.tree_at true self.now.depth) tokens.old) result tokens.new }
+        ensures { Reads (spec.guards (spec.below self.now.depth) tokens.old) result tokens.new }
     {
-        let mut found = Items::new(self.alloc);
-        found.push(self.guard(tokens)?)?;
-        'turns: while tokens.sees(Terminal::Bar) {
-            found.push(self.guard(tokens)?)?;
-        }
-        Ok(found)
+        some(
+            self.alloc,
+            &[Terminal::Bar],
+            |tokens: &mut Cursor<'_>| self.guard(tokens),
+            tokens,
+        )
     }
 
-    #[tactic(auto, unfolding(crate::specs::ExprReader::multi_way))]
+    #[tactic(auto, unfolding(expr_grammar::specs::ExprReader::multi_way))]
     fn multi_way(&self, at: At, tokens: &mut Cursor<'_>) -> Result<Expr, Halt<NoTree>>
         requires { ReadsExprs self.now.depth (F.pre self.now.below) (F.post self.now.below) }
-        ensures { Reads (placed at (spec.multi_way self.now.depth (spec.tree_at false self.now.depth) (spec.tree_at true self.now.depth)) tokens.old) result tokens.new }
+        ensures { Reads (placed at (spec.multi_way (spec.below self.now.depth)) tokens.old)
+            result tokens.new }
     {
         let branches = self.guards(tokens)?;
         Ok(Expr::Guards { at, branches })
     }
 
-    #[tactic(auto, unfolding(crate::specs::ExprReader::conditional))]
+    #[tactic(auto, unfolding(expr_grammar::specs::ExprReader::conditional))]
     pub fn conditional(&self, tokens: &mut Cursor<'_>) -> Result<Expr, Halt<NoTree>>
         requires { ReadsExprs self.now.depth (F.pre self.now.below) (F.post self.now.below) }
-        ensures { Reads (spec.conditional self.now.depth (spec.tree_at false self.now.depth) (spec.tree_at true self.now.depth) tokens.old) result tokens.new }
+        ensures { Reads (spec.conditional (spec.below self.now.depth) tokens.old)
+            result tokens.new }
     {
         let at = tokens.here()?;
         tokens.expect(Terminal::If)?;
-        if begins_expression(tokens) {
+        if tokens.sees_any(&EXPRESSIONS) {
             self.two_way(at, tokens)
         } else {
             self.multi_way(at, tokens)

@@ -15,5 +15,7 @@ mod operators;
 mod records;
 mod shapes;
 
-pub use calls::{expr, one_expr};
-pub use pattern_parser::{NoTree, one_pattern, one_type, pattern, type_text};
+pub use calls::expr;
+pub use expr_grammar::one_expr;
+pub use grammar::NoTree;
+pub use pattern_parser::{one_pattern, one_type, pattern, type_text};

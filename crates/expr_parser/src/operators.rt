@@ -1,14 +1,14 @@
 //! Operators.
-ghost use Rattle.pattern_parser.specs.Reader.{Reads};
-ghost use Rattle.expr_parser.specs.ExprReader as spec;
+ghost use Rattle.grammar.specs.Reader.{Reads};
+ghost use Rattle.expr_grammar.specs.ExprReader as spec;
 
-use crate::begins::begins_sign;
+use crate::begins::SIGNS;
 use elm_base::{Halt, Name, Operator};
-use pattern_parser::{Cursor, NoTree, Terminal};
+use grammar::{Cursor, NoTree, Terminal};
 use std::alloc::Global;
 
 /// The spelling of an operator that isn't a name.
-#[tactic(auto, unfolding(crate::specs::ExprReader::sign))]
+#[tactic(auto, unfolding(expr_grammar::specs::ExprReader::sign))]
 pub fn sign(alloc: Global, tokens: &mut Cursor<'_>) -> Result<Name, Halt<NoTree>>
     ensures { Reads (spec.sign tokens.old) result tokens.new }
 {
@@ -22,7 +22,7 @@ pub fn sign(alloc: Global, tokens: &mut Cursor<'_>) -> Result<Name, Halt<NoTree>
 }
 
 /// A name that begins with a lower-case letter, with modules before it or without.
-#[tactic(auto, unfolding(crate::specs::ExprReader::any_lower))]
+#[tactic(auto, unfolding(expr_grammar::specs::ExprReader::any_lower))]
 pub fn any_lower(alloc: Global, tokens: &mut Cursor<'_>) -> Result<Name, Halt<NoTree>>
     ensures { Reads (spec.any_lower tokens.old) result tokens.new }
 {
@@ -34,7 +34,7 @@ pub fn any_lower(alloc: Global, tokens: &mut Cursor<'_>) -> Result<Name, Halt<No
 }
 
 /// A name in backticks.
-#[tactic(auto, unfolding(crate::specs::ExprReader::quoted))]
+#[tactic(auto, unfolding(expr_grammar::specs::ExprReader::quoted))]
 fn quoted(alloc: Global, tokens: &mut Cursor<'_>) -> Result<Name, Halt<NoTree>>
     ensures { Reads (spec.quoted tokens.old) result tokens.new }
 {
@@ -45,12 +45,12 @@ fn quoted(alloc: Global, tokens: &mut Cursor<'_>) -> Result<Name, Halt<NoTree>>
 }
 
 /// An operator where it stands between operands.
-#[tactic(auto, unfolding(crate::specs::ExprReader::operator))]
+#[tactic(auto, unfolding(expr_grammar::specs::ExprReader::operator))]
 pub fn operator(alloc: Global, tokens: &mut Cursor<'_>) -> Result<Operator, Halt<NoTree>>
     ensures { Reads (spec.operator tokens.old) result tokens.new }
 {
     let at = tokens.here()?;
-    let name = if begins_sign(tokens) {
+    let name = if tokens.sees_any(&SIGNS) {
         sign(alloc, tokens)?
     } else {
         quoted(alloc, tokens)?

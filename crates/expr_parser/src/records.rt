@@ -1,123 +1,94 @@
 //! Records.
-ghost use Rattle.std.specs.Prelude.{◌≡◌, true, false};
-ghost use Rattle.pattern_parser.specs.Reader.{Reads};
-ghost use Rattle.expr_parser.specs.ExprReader as spec;
+ghost use Rattle.grammar.specs.Reader.{Reads};
+ghost use Rattle.expr_grammar.specs.ExprReader as spec;
 ghost use Rattle.expr_parser.specs.ExprCalls.{ReadsExprs};
 ghost use Rattle.expr_parser.specs.Places.{placed, placed_round};
 
-use crate::begins::begins_atom;
+use crate::begins::ATOMS;
 use crate::exprs::Exprs;
 use elm_base::{At, Expr, Halt, Set};
-use pattern_parser::{Cursor, NoTree, Terminal};
+use grammar::{Cursor, NoTree, Terminal, separated, terminated};
 use sqlite_items::{Boxed, Items};
 use std::alloc::Global;
 
 impl<F: Fn(Global, bool, usize, &mut Cursor<'_>) -> Result<Expr, Halt<NoTree>>> Exprs<F> {
-    /// A field with its value.
-    #[tactic(auto, unfolding(crate::specs::ExprReader::set))]
-    fn set(&self, tokens: &mut Cursor<'_>) -> Result<Set, Halt<NoTree>>
+    /// A field with its value, or with the value that it changes to, as the token between says.
+    #[tactic(auto, unfolding(expr_grammar::specs::ExprReader::set))]
+    fn set(&self, symbol: Terminal, tokens: &mut Cursor<'_>) -> Result<Set, Halt<NoTree>>
         requires { ReadsExprs self.now.depth (F.pre self.now.below) (F.post self.now.below) }
-        ensures { Reads (spec.set self.now.depth (spec.tree_at false self.now.depth) (spec.tree_at true self.now.depth) tokens.old) result tokens.new }
+        ensures { Reads (spec.set (spec.below self.now.depth) symbol tokens.old) result tokens.new }
     {
         let at = tokens.here()?;
         let label = tokens.name(self.alloc, Terminal::Lower)?;
-        tokens.expect(Terminal::Equals)?;
-        let value = self.whole(tokens)?;
+        let value = self.behind(symbol, tokens)?;
         Ok(Set { at, label, value })
     }
 
-    #[tactic(auto, unfolding(crate::specs::ExprReader::next_set))]
-    fn next_set(&self, tokens: &mut Cursor<'_>) -> Result<Set, Halt<NoTree>>
-        requires { ReadsExprs self.now.depth (F.pre self.now.below) (F.post self.now.below) }
-        ensures { Reads (spec.next_set self.now.depth (spec.tree_at false self.now.depth) (spec.tree_at true self.now.depth) tokens.old) result tokens.new }
-    {
-        tokens.expect(Terminal::Comma)?;
-        self.set(tokens)
-    }
-
     /// One or more of them with commas between.
-    fn sets(&self, tokens: &mut Cursor<'_>) -> Result<Items<Set>, Halt<NoTree>>
+    fn sets(&self, symbol: Terminal, tokens: &mut Cursor<'_>) -> Result<Items<Set>, Halt<NoTree>>
         requires { ReadsExprs self.now.depth (F.pre self.now.below) (F.post self.now.below) }
-        ensures { Reads (spec.sets self.now.depth (spec.tree_at false self.now.depth) (spec.tree_at true self.now.depth) tokens.old) result tokens.new }
+        ensures { Reads (spec.sets (spec.below self.now.depth) symbol tokens.old)
+            result tokens.new }
     {
-        let mut found = Items::new(self.alloc);
-        found.push(self.set(tokens)?)?;
-        'turns: while tokens.sees(Terminal::Comma) {
-            found.push(self.next_set(tokens)?)?;
-        }
-        Ok(found)
+        separated(
+            self.alloc,
+            |tokens: &mut Cursor<'_>| self.set(symbol, tokens),
+            tokens,
+        )
     }
 
-    /// A field with the value that it changes to.
-    #[tactic(auto, unfolding(crate::specs::ExprReader::put))]
-    fn put(&self, tokens: &mut Cursor<'_>) -> Result<Set, Halt<NoTree>>
-        requires { ReadsExprs self.now.depth (F.pre self.now.below) (F.post self.now.below) }
-        ensures { Reads (spec.put self.now.depth (spec.tree_at false self.now.depth) (spec.tree_at true self.now.depth) tokens.old) result tokens.new }
-    {
-        let at = tokens.here()?;
-        let label = tokens.name(self.alloc, Terminal::Lower)?;
-        tokens.expect(Terminal::LeftArrow)?;
-        let value = self.whole(tokens)?;
-        Ok(Set { at, label, value })
-    }
-
-    #[tactic(auto, unfolding(crate::specs::ExprReader::next_put))]
-    fn next_put(&self, tokens: &mut Cursor<'_>) -> Result<Set, Halt<NoTree>>
-        requires { ReadsExprs self.now.depth (F.pre self.now.below) (F.post self.now.below) }
-        ensures { Reads (spec.next_put self.now.depth (spec.tree_at false self.now.depth) (spec.tree_at true self.now.depth) tokens.old) result tokens.new }
-    {
-        tokens.expect(Terminal::Comma)?;
-        self.put(tokens)
-    }
-
-    /// One or more of them with commas between.
-    fn puts(&self, tokens: &mut Cursor<'_>) -> Result<Items<Set>, Halt<NoTree>>
-        requires { ReadsExprs self.now.depth (F.pre self.now.below) (F.post self.now.below) }
-        ensures { Reads (spec.puts self.now.depth (spec.tree_at false self.now.depth) (spec.tree_at true self.now.depth) tokens.old) result tokens.new }
-    {
-        let mut found = Items::new(self.alloc);
-        found.push(self.put(tokens)?)?;
-        'turns: while tokens.sees(Terminal::Comma) {
-            found.push(self.next_put(tokens)?)?;
-        }
-        Ok(found)
-    }
-
-    #[tactic(auto, unfolding(crate::specs::ExprReader::fields))]
+    #[tactic(auto, unfolding(expr_grammar::specs::ExprReader::fields))]
     fn fields(&self, at: At, tokens: &mut Cursor<'_>) -> Result<Expr, Halt<NoTree>>
         requires { ReadsExprs self.now.depth (F.pre self.now.below) (F.post self.now.below) }
-        ensures { Reads (placed at (spec.fields self.now.depth (spec.tree_at false self.now.depth) (spec.tree_at true self.now.depth)) tokens.old) result tokens.new }
+        ensures { Reads (placed at (spec.fields (spec.below self.now.depth)) tokens.old)
+            result tokens.new }
     {
-        let fields = self.sets(tokens)?;
+        let fields = self.sets(Terminal::Equals, tokens)?;
         Ok(Expr::Fields { at, fields })
     }
 
     /// New fields over a record.
-    #[tactic(auto, unfolding(crate::specs::ExprReader::extended))]
-    fn extended(&self, at: At, from: Expr, tokens: &mut Cursor<'_>) -> Result<Expr, Halt<NoTree>>
+    #[tactic(auto, unfolding(expr_grammar::specs::ExprReader::extended))]
+    fn extended(
+        &self,
+        at: At,
+        from: Boxed<Expr>,
+        tokens: &mut Cursor<'_>,
+    ) -> Result<Expr, Halt<NoTree>>
         requires { ReadsExprs self.now.depth (F.pre self.now.below) (F.post self.now.below) }
-        ensures { Reads (placed_round at from (spec.extended self.now.depth (spec.tree_at false self.now.depth) (spec.tree_at true self.now.depth)) tokens.old) result tokens.new }
+        ensures { Reads (placed_round at from
+            (spec.extended (spec.below self.now.depth)) tokens.old) result tokens.new }
     {
-        let from = Boxed::new(self.alloc, from)?;
-        let fields = self.sets(tokens)?;
+        let fields = self.sets(Terminal::Equals, tokens)?;
         Ok(Expr::Extend { at, from, fields })
     }
 
     /// New values in fields of a record.
-    #[tactic(auto, unfolding(crate::specs::ExprReader::updated))]
-    fn updated(&self, at: At, from: Expr, tokens: &mut Cursor<'_>) -> Result<Expr, Halt<NoTree>>
+    #[tactic(auto, unfolding(expr_grammar::specs::ExprReader::updated))]
+    fn updated(
+        &self,
+        at: At,
+        from: Boxed<Expr>,
+        tokens: &mut Cursor<'_>,
+    ) -> Result<Expr, Halt<NoTree>>
         requires { ReadsExprs self.now.depth (F.pre self.now.below) (F.post self.now.below) }
-        ensures { Reads (placed_round at from (spec.updated self.now.depth (spec.tree_at false self.now.depth) (spec.tree_at true self.now.depth)) tokens.old) result tokens.new }
+        ensures { Reads (placed_round at from (spec.updated (spec.below self.now.depth)) tokens.old)
+            result tokens.new }
     {
-        let from = Boxed::new(self.alloc, from)?;
-        let fields = self.puts(tokens)?;
+        let fields = self.sets(Terminal::LeftArrow, tokens)?;
         Ok(Expr::Update { at, from, fields })
     }
 
-    #[tactic(auto, unfolding(crate::specs::ExprReader::behind_bar))]
-    fn behind_bar(&self, at: At, from: Expr, tokens: &mut Cursor<'_>) -> Result<Expr, Halt<NoTree>>
+    #[tactic(auto, unfolding(expr_grammar::specs::ExprReader::behind_bar))]
+    fn behind_bar(
+        &self,
+        at: At,
+        from: Boxed<Expr>,
+        tokens: &mut Cursor<'_>,
+    ) -> Result<Expr, Halt<NoTree>>
         requires { ReadsExprs self.now.depth (F.pre self.now.below) (F.post self.now.below) }
-        ensures { Reads (placed_round at from (spec.behind_bar self.now.depth (spec.tree_at false self.now.depth) (spec.tree_at true self.now.depth)) tokens.old) result tokens.new }
+        ensures { Reads (placed_round at from
+            (spec.behind_bar (spec.below self.now.depth)) tokens.old) result tokens.new }
     {
         tokens.expect(Terminal::Bar)?;
         if tokens.sees(Terminal::Lower) && tokens.sees_second(Terminal::Equals) {
@@ -128,26 +99,31 @@ impl<F: Fn(Global, bool, usize, &mut Cursor<'_>) -> Result<Expr, Halt<NoTree>>> 
     }
 
     /// The fields behind a bar, if one stands there.
-    #[tactic(auto, unfolding(crate::specs::ExprReader::new_fields))]
+    #[tactic(auto, unfolding(expr_grammar::specs::ExprReader::new_fields))]
     fn new_fields(&self, tokens: &mut Cursor<'_>) -> Result<Items<Set>, Halt<NoTree>>
         requires { ReadsExprs self.now.depth (F.pre self.now.below) (F.post self.now.below) }
-        ensures { Reads (spec.new_fields self.now.depth (spec.tree_at false self.now.depth) (spec.tree_at true self.now.depth) tokens.old) result tokens.new }
+        ensures { Reads (spec.new_fields (spec.below self.now.depth) tokens.old) result tokens.new }
     {
         if tokens.sees(Terminal::Bar) {
             tokens.expect(Terminal::Bar)?;
-            self.sets(tokens)
+            self.sets(Terminal::Equals, tokens)
         } else {
             Ok(Items::new(self.alloc))
         }
     }
 
     /// A record without a field, perhaps with new ones.
-    #[tactic(auto, unfolding(crate::specs::ExprReader::removed))]
-    fn removed(&self, at: At, from: Expr, tokens: &mut Cursor<'_>) -> Result<Expr, Halt<NoTree>>
+    #[tactic(auto, unfolding(expr_grammar::specs::ExprReader::removed))]
+    fn removed(
+        &self,
+        at: At,
+        from: Boxed<Expr>,
+        tokens: &mut Cursor<'_>,
+    ) -> Result<Expr, Halt<NoTree>>
         requires { ReadsExprs self.now.depth (F.pre self.now.below) (F.post self.now.below) }
-        ensures { Reads (placed_round at from (spec.removed self.now.depth (spec.tree_at false self.now.depth) (spec.tree_at true self.now.depth)) tokens.old) result tokens.new }
+        ensures { Reads (placed_round at from (spec.removed (spec.below self.now.depth)) tokens.old)
+            result tokens.new }
     {
-        let from = Boxed::new(self.alloc, from)?;
         tokens.expect(Terminal::Minus)?;
         let label = tokens.name(self.alloc, Terminal::Lower)?;
         let fields = self.new_fields(tokens)?;
@@ -159,12 +135,13 @@ impl<F: Fn(Global, bool, usize, &mut Cursor<'_>) -> Result<Expr, Halt<NoTree>>> 
         })
     }
 
-    #[tactic(auto, unfolding(crate::specs::ExprReader::over_record))]
+    #[tactic(auto, unfolding(expr_grammar::specs::ExprReader::over_record))]
     fn over_record(&self, at: At, tokens: &mut Cursor<'_>) -> Result<Expr, Halt<NoTree>>
         requires { ReadsExprs self.now.depth (F.pre self.now.below) (F.post self.now.below) }
-        ensures { Reads (placed at (spec.over_record self.now.depth (spec.tree_at false self.now.depth) (spec.tree_at true self.now.depth)) tokens.old) result tokens.new }
+        ensures { Reads (placed at (spec.over_record (spec.below self.now.depth)) tokens.old)
+            result tokens.new }
     {
-        let from = self.inner_atom(tokens)?;
+        let from = Boxed::new(self.alloc, self.inner_atom(tokens)?)?;
         if tokens.sees(Terminal::Bar) {
             self.behind_bar(at, from, tokens)
         } else {
@@ -172,10 +149,11 @@ impl<F: Fn(Global, bool, usize, &mut Cursor<'_>) -> Result<Expr, Halt<NoTree>>> 
         }
     }
 
-    #[tactic(auto, unfolding(crate::specs::ExprReader::filled_braces))]
+    #[tactic(auto, unfolding(expr_grammar::specs::ExprReader::filled_braces))]
     fn filled_braces(&self, at: At, tokens: &mut Cursor<'_>) -> Result<Expr, Halt<NoTree>>
         requires { ReadsExprs self.now.depth (F.pre self.now.below) (F.post self.now.below) }
-        ensures { Reads (placed at (spec.filled_braces self.now.depth (spec.tree_at false self.now.depth) (spec.tree_at true self.now.depth)) tokens.old) result tokens.new }
+        ensures { Reads (placed at (spec.filled_braces (spec.below self.now.depth)) tokens.old)
+            result tokens.new }
     {
         if tokens.sees(Terminal::Lower) && tokens.sees_second(Terminal::Equals) {
             self.fields(at, tokens)
@@ -184,12 +162,13 @@ impl<F: Fn(Global, bool, usize, &mut Cursor<'_>) -> Result<Expr, Halt<NoTree>>> 
         }
     }
 
-    #[tactic(auto, unfolding(crate::specs::ExprReader::inside_braces))]
+    #[tactic(auto, unfolding(expr_grammar::specs::ExprReader::inside_braces))]
     fn inside_braces(&self, at: At, tokens: &mut Cursor<'_>) -> Result<Expr, Halt<NoTree>>
         requires { ReadsExprs self.now.depth (F.pre self.now.below) (F.post self.now.below) }
-        ensures { Reads (placed at (spec.inside_braces self.now.depth (spec.tree_at false self.now.depth) (spec.tree_at true self.now.depth)) tokens.old) result tokens.new }
+        ensures { Reads (placed at (spec.inside_braces (spec.below self.now.depth)) tokens.old)
+            result tokens.new }
     {
-        if begins_atom(tokens) {
+        if tokens.sees_any(&ATOMS) {
             self.filled_braces(at, tokens)
         } else {
             let fields = Items::new(self.alloc);
@@ -198,15 +177,17 @@ impl<F: Fn(Global, bool, usize, &mut Cursor<'_>) -> Result<Expr, Halt<NoTree>>> 
     }
 
     /// A record.
-    #[tactic(auto, unfolding(crate::specs::ExprReader::braces))]
+    #[tactic(auto, unfolding(expr_grammar::specs::ExprReader::braces))]
     pub fn braces(&self, tokens: &mut Cursor<'_>) -> Result<Expr, Halt<NoTree>>
         requires { ReadsExprs self.now.depth (F.pre self.now.below) (F.post self.now.below) }
-        ensures { Reads (spec.braces self.now.depth (spec.tree_at false self.now.depth) (spec.tree_at true self.now.depth) tokens.old) result tokens.new }
+        ensures { Reads (spec.braces (spec.below self.now.depth) tokens.old) result tokens.new }
     {
         let at = tokens.here()?;
         tokens.expect(Terminal::LeftBrace)?;
-        let tree = self.inside_braces(at, tokens)?;
-        tokens.expect(Terminal::RightBrace)?;
-        Ok(tree)
+        terminated(
+            self.inside_braces(at, tokens)?,
+            tokens,
+            Terminal::RightBrace,
+        )
     }
 }

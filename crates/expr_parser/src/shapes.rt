@@ -1,7 +1,7 @@
 //! What the grammar asks of the form of a tree that has been read.
 ghost use Rattle.std.specs.Prelude.{◌≡◌, map};
 ghost use Rattle.elm_base.specs.declared.tree.Declaration.{out-Declaration};
-ghost use Rattle.expr_parser.specs.Expressions as grammar;
+ghost use Rattle.expr_grammar.specs.Expressions as grammar;
 
 use elm_base::{Declaration, Expr, Name, Pattern};
 
@@ -60,7 +60,8 @@ pub fn annotations_stand(declarations: &[Declaration]) -> bool
 
 /// Whether the first is no annotation, or the first behind it defines its name.
 fn stands_before(first: &Declaration, behind: &[Declaration]) -> bool
-    ensures { result ≡ grammar.stands (grammar.annotated_name (out-Declaration first.now)) behind.now }
+    ensures { result
+        ≡ grammar.stands (grammar.annotated_name (out-Declaration first.now)) behind.now }
 {
     match first {
         Declaration::Annotation { name, .. } => defines(behind, name),

@@ -3,10 +3,10 @@ use Rattle.std.proofs.Common.{◌≡◌, Bool, false, ◌⊎◌, List, [], ◌�
 use Rattle.elm_base.specs.declared.memory.Halt.{Halt}
 use Rattle.elm_base.specs.declared.memory.Halt.TheVariants.{Because, NoMemory}
 use Rattle.elm_base.specs.declared.token.TokenKind.{TokenKind}
+use Rattle.elm_base.specs.Lexemes.{Lexeme}
 use Rattle.layout_lexer.specs.declared.place.TextFault.{TextFault}
 use Rattle.layout_lexer.specs.Chars.{Text}
 use Rattle.layout_lexer.specs.Places.{place_after}
-use Rattle.layout_lexer.specs.Lexemes.{Lexeme}
 use Rattle.layout_lexer.specs.Cuts.{Part, Cut, joins, lexemes, listed}
 use Rattle.layout_lexer.specs.Tokens.{Stands, Tokens, FirstFault, AreSlices, OnBecause}
 use Rattle.layout_lexer.specs.Scan.{Scans, Stops}

@@ -6,10 +6,11 @@ use Rattle.std.proofs.lemmas.List.{take_all}
 use Rattle.std.proofs.lemmas.Str.{utf8_valid_len-IsValidUpTo, IsUtf8-from_is_utf8, is_utf8-from_IsUtf8, IsUtf8-nil}
 use Rattle.elm_base.specs.declared.fault.FaultKind.{FaultKind}
 use Rattle.elm_base.specs.declared.fault.FaultKind.TheVariants as fault
+use Rattle.elm_base.specs.Lexemes.{Lexeme}
 use Rattle.layout_lexer.specs.declared.piece.Piece.{Piece}
 use Rattle.layout_lexer.specs.declared.place.TextFault.{TextFault}
 use Rattle.layout_lexer.specs.Chars.{Text, class_of, is_among}
-use Rattle.layout_lexer.specs.Lexemes.{Lexeme, fault_after}
+use Rattle.layout_lexer.specs.Places.{fault_after}
 use Rattle.layout_lexer.specs.Cuts.{Part, Cut, joins, texts, lexemes, HasBadByte, HasTab, HasNoTab}
 use Rattle.layout_lexer.specs.Tokens.{Stands, Faulty, Tokens, FirstFault}
 use Rattle.layout_lexer.specs.Pieces.{Read, piece, spelling}

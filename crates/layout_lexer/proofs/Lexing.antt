@@ -6,10 +6,10 @@ use Rattle.elm_base.specs.declared.token.Token.{Token}
 use Rattle.elm_base.specs.declared.token.TokenKind.{TokenKind}
 use Rattle.std.proofs.lemmas.List.{map-append}
 use Rattle.elm_base.specs.declared.fault.FaultKind.{FaultKind}
+use Rattle.elm_base.specs.Lexemes.{Lexeme, lexeme}
 use Rattle.layout_lexer.specs.declared.piece.Piece.{Piece}
 use Rattle.layout_lexer.specs.Chars.{Text}
 use Rattle.layout_lexer.specs.Places.{place_after, steps}
-use Rattle.layout_lexer.specs.Lexemes.{Lexeme, lexeme}
 use Rattle.layout_lexer.specs.Cuts.{Part, Cut, texts, joins, joined_after, lexemes, listed, HasNoTab, HasBadToken}
 use Rattle.layout_lexer.specs.Pieces.{piece}
 use Rattle.layout_lexer.specs.Scan.{Reads, Refuses, Scans}

@@ -6,7 +6,7 @@ use Rattle.std.proofs.lemmas.List.{drop_more}
 use Rattle.memchr.specs.Find.{Nowhere, NoneBefore, Passes, is_byte}
 use Rattle.elm_base.specs.declared.fault.FaultKind.TheVariants as fault
 use Rattle.layout_lexer.specs.Chars.{Text, is_among}
-use Rattle.layout_lexer.specs.Lexemes.{fault_after}
+use Rattle.layout_lexer.specs.Places.{fault_after}
 use Rattle.layout_lexer.specs.Cuts.{HasNoTab, HasTab}
 
 none_from_all : (text : Text) → ((k : ℕ) → k < length text → eqb (get_or text k 0) 9 ≡ true → ⊥) → HasNoTab text

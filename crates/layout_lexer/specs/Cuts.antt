@@ -7,10 +7,10 @@ use Rattle.elm_base.specs.declared.token.TokenKind.{TokenKind}
 use Rattle.elm_base.specs.declared.token.TokenKind.TheVariants as kind
 use Rattle.elm_base.specs.declared.fault.FaultKind.{FaultKind}
 use Rattle.elm_base.specs.declared.fault.FaultKind.TheVariants as fault
+use Rattle.elm_base.specs.Lexemes.{Lexeme}
 use Rattle.layout_lexer.specs.declared.place.TextFault.{TextFault}
 use Rattle.layout_lexer.specs.Chars.{Text, is_among}
-use Rattle.layout_lexer.specs.Places.{place_after}
-use Rattle.layout_lexer.specs.Lexemes.{Lexeme, fault_after}
+use Rattle.layout_lexer.specs.Places.{place_after, fault_after}
 
 -- a part of a text: a token of this kind, or white space or a comment
 pub record Part : Type 0 where
@@ -46,7 +46,7 @@ Cut Stands joined text (p ∷ ps) after = (rest : Text) × (text ≡ p.text ++ r
 -- a token at this place, where the part is one, before more
 abbrev pub listed : Option TokenKind → Text → At → List Lexeme → List Lexeme
 listed None s at more = more
-listed (Some k) s at more = record { kind = k; text = s; line = at.line; column = at.column } ∷ more
+listed (Some k) s at more = record { kind = k; text = s; at = at } ∷ more
 
 -- the tokens among the parts, each at the place after all that stands before it
 abbrev pub lexemes : Text → List Part → List Lexeme

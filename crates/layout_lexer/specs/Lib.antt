@@ -1,7 +1,6 @@
 pub mod Chars
 pub mod Marks
 pub mod Places
-pub mod Lexemes
 pub mod Spellings
 pub mod Comments
 pub mod Cuts

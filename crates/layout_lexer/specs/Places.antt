@@ -2,6 +2,8 @@
 use Rattle.std.specs.Prelude.{ℕ, ◌+◌, ◌-◌, ◌^◌, min, if◌then◌else◌, ◌==◌, [], ◌∷◌, reverse}
 use Rattle.std.specs.List.{count_by}
 use Rattle.elm_base.specs.declared.token.At.{At}
+use Rattle.elm_base.specs.declared.fault.FaultKind.{FaultKind}
+use Rattle.layout_lexer.specs.declared.place.TextFault.{TextFault}
 use Rattle.layout_lexer.specs.Chars.{Text, is_continuation}
 
 abbrev pub counted : ℕ → ℕ
@@ -18,6 +20,10 @@ chars_back (b ∷ bs) = if b == 10 then 0 else (if is_continuation b then chars_
 -- the place directly after these bytes
 unfoldable pub place_after : Text → At
 place_after before = record { line = counted (newlines before + 1); column = counted (chars_back (reverse before) + 1) }
+
+-- a fault at the line that begins or goes on directly after these bytes
+abbrev pub fault_after : Text → FaultKind → TextFault
+fault_after before k = record { line = (place_after before).line; kind = k }
 
 -- ---- the same, from a place on
 

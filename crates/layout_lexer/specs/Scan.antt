@@ -1,11 +1,11 @@
 -- A text cut by the plain function.
 use Rattle.std.specs.Prelude.{◌≡◌, ◌<◌, Bool, List, length, Ok, Err}
 use Rattle.elm_base.specs.declared.fault.FaultKind.{FaultKind}
+use Rattle.elm_base.specs.Lexemes.{Lexeme}
 use Rattle.layout_lexer.specs.declared.piece.Piece.{Piece}
 use Rattle.layout_lexer.specs.declared.place.TextFault.{TextFault}
 use Rattle.layout_lexer.specs.Chars.{Text}
 use Rattle.layout_lexer.specs.Pieces.{piece}
-use Rattle.layout_lexer.specs.Lexemes.{Lexeme}
 use Rattle.layout_lexer.specs.Cuts.{Part, TokensBy, FirstFaultBy}
 
 abbrev pub piece_of : Part → Piece

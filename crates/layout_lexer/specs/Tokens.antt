@@ -7,13 +7,13 @@ use Rattle.elm_base.specs.declared.token.TokenKind.{TokenKind}
 use Rattle.elm_base.specs.declared.token.TokenKind.TheVariants as kind
 use Rattle.elm_base.specs.declared.fault.FaultKind.{FaultKind}
 use Rattle.elm_base.specs.declared.fault.FaultKind.TheVariants as fault
+use Rattle.elm_base.specs.Lexemes.{Lexeme}
 use Rattle.layout_lexer.specs.declared.byte_class.Class.TheVariants as class
 use Rattle.layout_lexer.specs.declared.place.TextFault.{TextFault}
 use Rattle.layout_lexer.specs.Chars.{Text, class_of}
 use Rattle.layout_lexer.specs.Marks.{max_name, max_int, opens, is_listed, words, symbol_runs, goes_on, is_escape}
 use Rattle.layout_lexer.specs.Spellings.{Begins, IsLongest, IsName, IsQualified, IsField, IsRun, IsFieldOrRun, value_of, IsText, IsQuoted, IsChar, IsSymbol}
 use Rattle.layout_lexer.specs.Comments.{EndsLine, EndsTextLine, is_line_byte, Closes}
-use Rattle.layout_lexer.specs.Lexemes.{Lexeme}
 use Rattle.layout_lexer.specs.Cuts.{Part, TokensBy, FirstFaultBy}
 
 -- white space or a comment

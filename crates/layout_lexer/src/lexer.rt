@@ -4,9 +4,10 @@ ghost use Rattle.std.specs.Prelude.{◌≡◌, ◌≤◌, ◌⊎◌, Bool, List,
 ghost use Rattle.std.specs.Str.{IsUtf8};
 ghost use Rattle.elm_base.specs.declared.memory.Halt.TheVariants as halts;
 ghost use Rattle.elm_base.specs.declared.token.TokenKind.{TokenKind};
+ghost use Rattle.elm_base.specs.Lexemes.{Lexeme, lexeme};
 ghost use Rattle.layout_lexer.specs.declared.place.TextFault.{TextFault};
 ghost use Rattle.layout_lexer.specs.Chars.{Text};
-ghost use Rattle.layout_lexer.specs.Lexemes.{Lexeme, lexeme, fault_after as fault_after_of};
+ghost use Rattle.layout_lexer.specs.Places.{fault_after as fault_after_of};
 ghost use Rattle.layout_lexer.specs.Spellings.{Begins};
 ghost use Rattle.layout_lexer.specs.Cuts.{joins as joins_of, is_value as is_value_of, HasNoTab, HasBadByte, HasTab};
 ghost use Rattle.layout_lexer.specs.Tokens.{Stands, token_part, IsSpelling, Tokens, FirstFault, AreSlices, OnBecause};
@@ -29,8 +30,10 @@ pub fn tokens(alloc: Global, text: &[u8]) -> Result<Vec<Token<'_>>, Halt<TextFau
     ensures refused { IfErr result (λ halt. OnBecause halt (λ fault. FirstFault text.now fault)) }
 
     // What has tokens gives them, and what has a fault gives it, or memory runs out.
-    ensures exact { (list : List Lexeme) → Tokens text.now list → MatchResult result (λ found. map lexeme found.items ≡ list) (λ halt. halt ≡ halts.NoMemory) }
-    ensures faulty { (fault : TextFault) → FirstFault text.now fault → MatchResult result (λ _. ⊥) (λ halt. (halt ≡ halts.Because fault) ⊎ (halt ≡ halts.NoMemory)) }
+    ensures exact { (list : List Lexeme) → Tokens text.now list →
+        MatchResult result (λ found. map lexeme found.items ≡ list) (λ halt. halt ≡ halts.NoMemory) }
+    ensures faulty { (fault : TextFault) → FirstFault text.now fault →
+        MatchResult result (λ _. ⊥) (λ halt. (halt ≡ halts.Because fault) ⊎ (halt ≡ halts.NoMemory)) }
 {
     scan(alloc, text)
 }
@@ -38,11 +41,15 @@ pub fn tokens(alloc: Global, text: &[u8]) -> Result<Vec<Token<'_>>, Halt<TextFau
 /// Each text has one list of tokens or one first fault, and not both. A token is the longest spelling, of
 /// whatever kind, with which the text goes on at its place.
 pub fn one_reading()
-    ensures some { (text : Text) → ((list : List Lexeme) × Tokens text list) ⊎ ((fault : TextFault) × FirstFault text fault) }
+    ensures some { (text : Text) →
+        ((list : List Lexeme) × Tokens text list) ⊎ ((fault : TextFault) × FirstFault text fault) }
     ensures one_list { (text : Text) (list other : List Lexeme) → Tokens text list → Tokens text other → list ≡ other }
-    ensures one_fault { (text : Text) (fault other : TextFault) → FirstFault text fault → FirstFault text other → fault ≡ other }
-    ensures not_both { (text : Text) (list : List Lexeme) (fault : TextFault) → Tokens text list → FirstFault text fault → ⊥ }
-    ensures longest { (joined : Bool) (text : Text) (kind : TokenKind) (s other : Text) → Stands joined text (token_part kind s) → Begins other text → IsSpelling other → length other ≤ length s }
+    ensures one_fault { (text : Text) (fault other : TextFault) →
+        FirstFault text fault → FirstFault text other → fault ≡ other }
+    ensures not_both { (text : Text) (list : List Lexeme) (fault : TextFault) →
+        Tokens text list → FirstFault text fault → ⊥ }
+    ensures longest { (joined : Bool) (text : Text) (kind : TokenKind) (s other : Text) →
+        Stands joined text (token_part kind s) → Begins other text → IsSpelling other → length other ≤ length s }
 {}
 
 fn scan(alloc: Global, text: &[u8]) -> Result<Vec<Token<'_>>, Halt<TextFault>>
@@ -104,7 +111,8 @@ fn is_value(kind: TokenKind, spelling: &[u8]) -> bool
 
 /// The fault of the first byte that isn't UTF-8, or else of the first tab.
 fn faulty_byte(text: &[u8]) -> Option<TextFault>
-    ensures { MatchOption result (IsUtf8 text.now × HasNoTab text.now) (λ f. HasBadByte text.now f ⊎ HasTab text.now f) }
+    ensures { MatchOption result (IsUtf8 text.now × HasNoTab text.now)
+        (λ f. HasBadByte text.now f ⊎ HasTab text.now f) }
 {
     if let Err(error) = str::from_utf8(text) {
         return Some(fault_after(&text[..error.valid_up_to()], FaultKind::NotUtf8));

@@ -11,6 +11,3 @@ mod place;
 
 pub use lexer::{one_reading, tokens};
 pub use place::TextFault;
-
-#[cfg(test)]
-mod tests;

@@ -1,9 +1,17 @@
-//! Tests of the parser: expressions from texts that the lexer cuts, types and patterns from words.
+//! Tests of the lexer and the parsers: texts and their tokens, types, patterns and expressions from texts that the lexer cuts.
 #![tactic(auto)]
 
 #[cfg(test)]
+mod expressions;
+#[cfg(test)]
+mod form;
+#[cfg(test)]
+mod patterns;
+#[cfg(test)]
+mod reading;
+#[cfg(test)]
 mod show;
 #[cfg(test)]
-mod tests;
+mod tokens;
 #[cfg(test)]
-mod words;
+mod types;

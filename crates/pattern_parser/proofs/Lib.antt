@@ -1,16 +1,4 @@
-pub mod Laws
-pub mod Turns
-pub mod Depth
 pub mod TypeReadings
-pub mod Shallow
 pub mod TypeLaws
-pub mod SpellingLaws
 pub mod PatternReadings
 pub mod PatternLaws
-pub mod Columns
-pub mod Links
-pub mod Ends
-pub mod Choice
-pub mod Follows
-pub mod Items
-pub mod Cut

@@ -1,23 +1,21 @@
 -- A pattern derives at any depth that its nesting needs, and so only one derives from a list of tokens.
-use Rattle.std.proofs.Common.{◌≡◌, ◌≢◌, ℕ, zero, suc, ◌<◌, ◌≤◌, max, true, false, List, [], ◌∷◌, Option, Some, None, refl, sym, ◌∙◌, ap, subst, append-nil, arith}
-use Rattle.elm_base.specs.declared.memory.Halt.{Halt}
-use Rattle.elm_base.specs.declared.memory.Halt.TheVariants as halt
+use Rattle.std.proofs.Common.{◌≡◌, ℕ, zero, suc, ◌<◌, ◌≤◌, max, true, List, [], ◌∷◌, Option, Some, None, refl, sym, ◌∙◌, ap, subst, append-nil, arith}
 use Rattle.elm_base.specs.declared.token.At.{At}
 use Rattle.elm_base.specs.declared.tree.Spot.{Spot}
 use Rattle.elm_base.specs.declared.tree.Pattern.{Pattern}
-use Rattle.pattern_parser.specs.declared.cursor.NoTree.{NoTree}
-use Rattle.pattern_parser.specs.declared.terminal.Terminal.TheVariants as k
-use Rattle.pattern_parser.specs.Terminals.{Lexeme}
-use Rattle.pattern_parser.specs.Rules as rule
-use Rattle.pattern_parser.specs.Rules.{Rule, at_most_nine}
-use Rattle.pattern_parser.specs.Reader as reader
+use Rattle.elm_base.specs.Lexemes.{Lexeme}
+use Rattle.grammar.specs.declared.terminal.Terminal.TheVariants as k
+use Rattle.grammar.specs.Rules as rule
+use Rattle.grammar.specs.Rules.{Rule, at_most_nine}
+use Rattle.grammar.specs.Reader as reader
 use Rattle.tree_nesting.specs.Nesting.{pattern_nesting}
 use Rattle.pattern_parser.specs.Patterns as g
 use Rattle.pattern_parser.specs.Patterns.{DerivesPattern}
 use Rattle.pattern_parser.specs.PatternReader as m
-use Rattle.pattern_parser.proofs.Laws.{ok_same}
+use Rattle.grammar.proofs.Laws.{ok_same}
+use Rattle.grammar.proofs.Wholes.{Decides}
 use Rattle.tree_nesting.proofs.NestingLaws.{of_made, of_cons, of_list, of_pattern_tuple, of_pattern_brackets, of_pattern_named, around_each}
-use Rattle.pattern_parser.proofs.Shallow.{Shallow, same, when, seq, by, either, only, at, many, after, before, separated}
+use Rattle.grammar.proofs.Shallow.{Shallow, same, when, seq, by, either, only, at, many, after, before, separated}
 use Rattle.tree_nesting.proofs.Each.{Each}
 use Rattle.pattern_parser.proofs.PatternReadings.{whole_reads, cons_reads}
 
@@ -99,13 +97,13 @@ deep_enough (suc depth) (suc n) =
 
 -- ---- all of the tokens
 
-pub derived_is_read : (n : ℕ) (ts : List Lexeme) (x : Pattern) → DerivesPattern ts x → pattern_nesting x ≤ n → m.whole (m.cons_at (suc n)) ts ≡ Some (x, [])
+derived_is_read : (n : ℕ) (ts : List Lexeme) (x : Pattern) → DerivesPattern ts x → pattern_nesting x ≤ n → m.whole (m.cons_at (suc n)) ts ≡ Some (x, [])
 derived_is_read n ts x w h =
     let s = whole_of (g.cons_at w.0) (g.cons_at (suc n)) n (deep_enough w.0 n) in
     let r = whole_reads (cons_reads (suc n)) in
     sym (ap (m.whole (m.cons_at (suc n))) (append-nil ts)) ∙ r.complete ts [] x (s.takes ts x w.1 h) refl
 
-pub read_derives : (n : ℕ) (ts rest : List Lexeme) (x : Pattern) → m.whole (m.cons_at n) ts ≡ Some (x, rest) → reader.is_done rest ≡ true → DerivesPattern ts x
+read_derives : (n : ℕ) (ts rest : List Lexeme) (x : Pattern) → m.whole (m.cons_at n) ts ≡ Some (x, rest) → reader.is_done rest ≡ true → DerivesPattern ts x
 read_derives n ts [] x e d =
     let r = whole_reads (cons_reads n) in
     let s = r.sound.reads ts [] x e in
@@ -119,18 +117,5 @@ one_pattern ts x y v w =
     let b = derived_is_read n ts y w (omega arith) in
     ap (λ z. z.0) (ok_same (sym a ∙ b))
 
--- ---- what a call answers, where a pattern within the limit derives
-
-pub found_it : (n : ℕ) (ts rest : List Lexeme) (x y : Pattern) → DerivesPattern ts x → pattern_nesting x ≤ n → m.whole (m.cons_at (suc n)) ts ≡ Some (y, rest) → (y ≡ x) × (rest ≡ [])
-found_it n ts rest x y w h e =
-    let is = ok_same (sym e ∙ derived_is_read n ts x w h) in (ap (λ z. z.0) is, ap (λ z. z.1) is)
-
-pub none_left : (n : ℕ) (ts rest : List Lexeme) (x y : Pattern) → DerivesPattern ts x → pattern_nesting x ≤ n → m.whole (m.cons_at (suc n)) ts ≡ Some (y, rest) → reader.is_done rest ≡ false → ⊥
-none_left n ts rest x y w h e d = let f = found_it n ts rest x y w h e in let same_ = ap reader.is_done f.1 in cc
-
-pub only_memory : (n : ℕ) (ts : List Lexeme) (x : Pattern) (cause : Halt NoTree) → DerivesPattern ts x → pattern_nesting x ≤ n
-    → (cause ≢ halt.NoMemory → m.whole (m.cons_at (suc n)) ts ≡ None) → cause ≡ halt.NoMemory
-only_memory n ts x halt.NoMemory w h e = refl
-only_memory n ts x (halt.Because reason) w h e =
-    let a = e (λ z. cc) in
-    let b = derived_is_read n ts x w h in cc
+pub decides : (n : ℕ) → Decides DerivesPattern pattern_nesting n (m.whole (m.cons_at (suc n)))
+decides n = record { sound = read_derives (suc n); complete = derived_is_read n }

@@ -1,17 +1,20 @@
 -- The parser of patterns reads their grammar.
 use Rattle.std.proofs.Common.{ℕ, zero, suc, true, false, List, [], ◌∷◌, refl}
 use Rattle.elm_base.specs.declared.tree.Pattern.{Pattern}
-use Rattle.pattern_parser.specs.declared.terminal.Terminal.{Terminal}
-use Rattle.pattern_parser.specs.declared.terminal.Terminal.TheVariants as k
-use Rattle.pattern_parser.specs.Terminals.{same_terminal}
-use Rattle.pattern_parser.specs.Spelling.{int_value, char_value, text_value}
-use Rattle.pattern_parser.specs.Rules as rule
-use Rattle.pattern_parser.specs.Rules.{Rule, at_most_nine}
-use Rattle.pattern_parser.specs.Reader.{Parser}
+use Rattle.grammar.specs.declared.terminal.Terminal.{Terminal}
+use Rattle.grammar.specs.declared.terminal.Terminal.TheVariants as k
+use Rattle.grammar.specs.Terminals.{same_terminal}
+use Rattle.grammar.specs.Spelling.{int_value, char_value, text_value}
+use Rattle.grammar.specs.Rules as rule
+use Rattle.grammar.specs.Rules.{Rule, at_most_nine}
+use Rattle.grammar.specs.Reader as reader
+use Rattle.grammar.specs.Reader.{Parser}
+use Rattle.grammar.specs.Lists as lists
 use Rattle.pattern_parser.specs.Patterns as g
 use Rattle.pattern_parser.specs.PatternReader as m
 use Rattle.pattern_parser.specs.PatternReader.{patterns_begin}
-use Rattle.pattern_parser.proofs.Laws.{Reading, seq, by, within, spelled, name, mark, nothing, either, optional, only, at, many, spot}
+use Rattle.grammar.proofs.Laws.{Reading, seq, by, within, spelled, name, mark, nothing, either, optional, only, at, many, spot}
+use Rattle.grammar.proofs.ListLaws.{separated}
 
 pub anything_reads : Reading g.anything m.anything false (k.Underscore ∷ []) []
 unfolding m.anything same_terminal
@@ -41,13 +44,9 @@ pub bare_reads : Reading g.bare m.bare false (k.Upper ∷ []) []
 unfolding m.bare same_terminal
 bare_reads = within (by _ (at (name k.Upper))) refl refl
 
-pub next_spot_reads : Reading (rule.◌▷◌ (rule.mark k.Comma) rule.spot) m.next_spot false (k.Comma ∷ []) []
-unfolding m.next_spot same_terminal
-next_spot_reads = within (by _ (seq (mark k.Comma) spot refl)) refl refl
-
-pub spots_read : Reading (rule.separated rule.spot) m.spots false (k.Lower ∷ []) (k.Comma ∷ [])
-unfolding m.spots same_terminal
-spots_read = within (by _ (seq spot (many next_spot_reads refl) refl)) refl refl
+spots_read : Reading (rule.separated rule.spot) (lists.separated reader.spot) false (k.Lower ∷ []) (k.Comma ∷ [])
+unfolding same_terminal
+spots_read = within (separated spot refl refl) refl refl
 
 pub labels_read : Reading g.labels m.labels false (k.LeftBrace ∷ []) []
 unfolding m.labels same_terminal
@@ -69,13 +68,9 @@ module _ {C : Rule Pattern} {c : Parser Pattern} (r : Reading C c false patterns
   unfolding m.whole same_terminal
   whole_reads = within (by _ (at (seq r alias_reads refl))) refl refl
 
-  pub next_reads : Reading (rule.◌▷◌ (rule.mark k.Comma) (g.whole C)) (m.next c) false (k.Comma ∷ []) goes_on
-  unfolding m.next same_terminal
-  next_reads = within (by _ (seq (mark k.Comma) whole_reads refl)) refl refl
-
-  pub patterns_read : Reading (rule.separated (g.whole C)) (m.patterns c) false patterns_begin (k.Comma ∷ goes_on)
-  unfolding m.patterns same_terminal
-  patterns_read = within (by _ (seq whole_reads (many next_reads refl) refl)) refl refl
+  patterns_read : Reading (rule.separated (g.whole C)) (lists.separated (m.whole c)) false patterns_begin (k.Comma ∷ goes_on)
+  unfolding same_terminal
+  patterns_read = within (separated whole_reads refl refl) refl refl
 
   pub any_patterns_read : Reading (rule.◌∣◌ (rule.separated (g.whole C)) (rule.nothing [])) (m.any_patterns c) true patterns_begin (k.Comma ∷ goes_on)
   unfolding m.any_patterns same_terminal

@@ -1,16 +1,18 @@
 -- The parser of types reads their grammar.
 use Rattle.std.proofs.Common.{ℕ, zero, suc, true, false, List, [], ◌∷◌, refl, None}
 use Rattle.elm_base.specs.declared.tree.TypeTree.{TypeTree}
-use Rattle.pattern_parser.specs.declared.terminal.Terminal.{Terminal}
-use Rattle.pattern_parser.specs.declared.terminal.Terminal.TheVariants as k
-use Rattle.pattern_parser.specs.Terminals.{same_terminal}
-use Rattle.pattern_parser.specs.Rules as rule
-use Rattle.pattern_parser.specs.Rules.{Rule, at_most_nine}
-use Rattle.pattern_parser.specs.Reader.{Parser}
+use Rattle.grammar.specs.declared.terminal.Terminal.{Terminal}
+use Rattle.grammar.specs.declared.terminal.Terminal.TheVariants as k
+use Rattle.grammar.specs.Terminals.{same_terminal}
+use Rattle.grammar.specs.Rules as rule
+use Rattle.grammar.specs.Rules.{Rule, at_most_nine}
+use Rattle.grammar.specs.Reader.{Parser}
+use Rattle.grammar.specs.Lists as lists
 use Rattle.pattern_parser.specs.Types as g
 use Rattle.pattern_parser.specs.TypeReader as m
 use Rattle.pattern_parser.specs.TypeReader.{arguments_begin}
-use Rattle.pattern_parser.proofs.Laws.{Reading, seq, by, within, name, mark, nothing, either, optional, only, at, many, spot}
+use Rattle.grammar.proofs.Laws.{Reading, seq, by, within, name, mark, nothing, either, optional, only, at, many, spot}
+use Rattle.grammar.proofs.ListLaws.{separated}
 
 pub variable_reads : Reading g.variable m.variable false (k.Lower ∷ []) []
 unfolding m.variable same_terminal
@@ -25,13 +27,9 @@ abbrev pub go_on : List Terminal
 go_on = k.Arrow ∷ arguments_begin
 
 module _ {E : Rule TypeTree} {e : Parser TypeTree} (r : Reading E e false arguments_begin go_on) where
-  pub next_reads : Reading (rule.◌▷◌ (rule.mark k.Comma) E) (m.next e) false (k.Comma ∷ []) go_on
-  unfolding m.next same_terminal
-  next_reads = within (by _ (seq (mark k.Comma) r refl)) refl refl
-
-  pub types_read : Reading (rule.separated E) (m.types e) false arguments_begin (k.Comma ∷ go_on)
-  unfolding m.types same_terminal
-  types_read = within (by _ (seq r (many next_reads refl) refl)) refl refl
+  types_read : Reading (rule.separated E) (lists.separated e) false arguments_begin (k.Comma ∷ go_on)
+  unfolding same_terminal
+  types_read = within (separated r refl refl) refl refl
 
   pub inside_brackets_read : Reading (rule.only at_most_nine (rule.◌∣◌ (rule.separated E) (rule.nothing []))) (m.inside_brackets e) true arguments_begin (k.Comma ∷ go_on)
   unfolding m.inside_brackets same_terminal
@@ -53,9 +51,9 @@ module _ {E : Rule TypeTree} {e : Parser TypeTree} (r : Reading E e false argume
   unfolding m.more_fields same_terminal
   more_fields_read = within (many next_field_reads refl) refl refl
 
-  pub fields_read : Reading (rule.separated (g.field E)) (m.fields e) false (k.Lower ∷ []) (k.Comma ∷ go_on)
-  unfolding m.fields same_terminal
-  fields_read = within (by _ (seq field_reads more_fields_read refl)) refl refl
+  fields_read : Reading (rule.separated (g.field E)) (lists.separated (m.field e)) false (k.Lower ∷ []) (k.Comma ∷ go_on)
+  unfolding same_terminal
+  fields_read = within (separated field_reads refl refl) refl refl
 
   pub behind_variable_reads : Reading (g.behind_variable E) (m.behind_variable e) false (k.Bar ∷ []) (k.Comma ∷ go_on)
   unfolding m.behind_variable same_terminal

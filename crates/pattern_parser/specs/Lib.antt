@@ -1,7 +1,3 @@
-pub mod Terminals
-pub mod Rules
-pub mod Reader
-pub mod Spelling
 pub mod Types
 pub mod TypeReader
 pub mod TypeCalls

@@ -4,9 +4,9 @@ use Rattle.std.specs.declared.alloc.Global.{Global}
 use denote.Ref.{MutBor}
 use Rattle.elm_base.specs.declared.memory.Halt.{Halt}
 use Rattle.elm_base.specs.declared.tree.Pattern.{Pattern}
-use Rattle.pattern_parser.specs.declared.cursor.NoTree.{NoTree}
-use Rattle.pattern_parser.specs.Terminals.{Lexeme}
-use Rattle.pattern_parser.specs.Reader.{Reads}
+use Rattle.elm_base.specs.Lexemes.{Lexeme}
+use Rattle.grammar.specs.declared.cursor.NoTree.{NoTree}
+use Rattle.grammar.specs.Reader.{Reads}
 use Rattle.pattern_parser.specs.PatternReader.{cons_at}
 
 pub record ReadsPatterns (depth : ℕ) (pre : Global → ℕ → MutBor (List Lexeme) → Type 0)

@@ -3,12 +3,13 @@ use Rattle.std.specs.Prelude.{ℕ, zero, suc, List, [], ◌∷◌, Option, None}
 use Rattle.elm_base.specs.declared.tree.Spot.{Spot}
 use Rattle.elm_base.specs.declared.tree.Pattern.{Pattern}
 use Rattle.elm_base.specs.declared.tree.Pattern.TheVariants as p
-use Rattle.pattern_parser.specs.declared.terminal.Terminal.{Terminal}
-use Rattle.pattern_parser.specs.declared.terminal.Terminal.TheVariants as k
-use Rattle.pattern_parser.specs.Rules.{at_most_nine}
-use Rattle.pattern_parser.specs.Spelling.{int_value, char_value, text_value}
+use Rattle.grammar.specs.declared.terminal.Terminal.{Terminal}
+use Rattle.grammar.specs.declared.terminal.Terminal.TheVariants as k
+use Rattle.grammar.specs.Rules.{at_most_nine}
+use Rattle.grammar.specs.Spelling.{int_value, char_value, text_value}
+use Rattle.grammar.specs.Lists.{separated}
 use Rattle.pattern_parser.specs.Patterns.{enclosed, consed, named}
-use Rattle.pattern_parser.specs.Reader.{Parser, spelled, name, mark, nothing, ◌⊗◌, ◌▷◌, ◌◁◌, ◌<$>◌, choose, optional, many, only, at, spot}
+use Rattle.grammar.specs.Reader.{Parser, spelled, name, mark, nothing, ◌⊗◌, ◌▷◌, ◌◁◌, ◌<$>◌, choose, optional, many, only, at, spot}
 
 -- what a pattern begins with, as well as a part of one
 abbrev pub patterns_begin : List Terminal
@@ -35,14 +36,8 @@ text = (λ x. p.Text x.0 x.1) <$> at (spelled k.Text text_value)
 unfoldable pub bare : Parser Pattern
 bare = (λ x. p.Made x.0 x.1 []) <$> at (name k.Upper)
 
-unfoldable pub next_spot : Parser Spot
-next_spot = mark k.Comma ▷ spot
-
-unfoldable pub spots : Parser (List Spot)
-spots = (λ x. x.0 ∷ x.1) <$> spot ⊗ many (k.Comma ∷ []) next_spot
-
 unfoldable pub labels : Parser Pattern
-labels = (λ x. p.Fields x.0 x.1) <$> at (mark k.LeftBrace ▷ spots ◁ mark k.RightBrace)
+labels = (λ x. p.Fields x.0 x.1) <$> at (mark k.LeftBrace ▷ separated spot ◁ mark k.RightBrace)
 
 -- the name behind `as`, if one stands there
 unfoldable pub alias : Parser (Option Spot)
@@ -55,14 +50,8 @@ module _ (cons : Parser Pattern) where
   unfoldable pub whole : Parser Pattern
   whole = named <$> at (cons ⊗ alias)
 
-  unfoldable pub next : Parser Pattern
-  next = mark k.Comma ▷ whole
-
-  unfoldable pub patterns : Parser (List Pattern)
-  patterns = (λ x. x.0 ∷ x.1) <$> whole ⊗ many (k.Comma ∷ []) next
-
   unfoldable pub any_patterns : Parser (List Pattern)
-  any_patterns = choose patterns_begin patterns (nothing [])
+  any_patterns = choose patterns_begin (separated whole) (nothing [])
 
   unfoldable pub list : Parser Pattern
   list = (λ x. p.List x.0 x.1) <$> at (mark k.LeftBracket ▷ any_patterns ◁ mark k.RightBracket)

@@ -4,10 +4,10 @@ use Rattle.elm_base.specs.declared.token.At.{At}
 use Rattle.elm_base.specs.declared.tree.Spot.{Spot}
 use Rattle.elm_base.specs.declared.tree.Pattern.{Pattern}
 use Rattle.elm_base.specs.declared.tree.Pattern.TheVariants as p
-use Rattle.pattern_parser.specs.declared.terminal.Terminal.TheVariants as k
-use Rattle.pattern_parser.specs.Terminals.{Lexeme}
-use Rattle.pattern_parser.specs.Spelling.{int_value, char_value, text_value}
-use Rattle.pattern_parser.specs.Rules.{Rule, spelled, name, mark, nothing, ◌⊗◌, ◌▷◌, ◌◁◌, ◌∣◌, ◌<$>◌, optional, many, separated, only, at_most_nine, at, spot}
+use Rattle.elm_base.specs.Lexemes.{Lexeme}
+use Rattle.grammar.specs.declared.terminal.Terminal.TheVariants as k
+use Rattle.grammar.specs.Spelling.{int_value, char_value, text_value}
+use Rattle.grammar.specs.Rules.{Rule, spelled, name, mark, nothing, ◌⊗◌, ◌▷◌, ◌◁◌, ◌∣◌, ◌<$>◌, optional, many, separated, only, at_most_nine, at, spot}
 
 -- ---- trees
 

@@ -3,11 +3,12 @@ use Rattle.std.specs.Prelude.{ℕ, zero, suc, List, [], ◌∷◌, Option, Some,
 use Rattle.elm_base.specs.declared.tree.Spot.{Spot}
 use Rattle.elm_base.specs.declared.tree.TypeTree.{TypeTree}
 use Rattle.elm_base.specs.declared.tree.TypeTree.TheVariants as t
-use Rattle.pattern_parser.specs.declared.terminal.Terminal.{Terminal}
-use Rattle.pattern_parser.specs.declared.terminal.Terminal.TheVariants as k
-use Rattle.pattern_parser.specs.Rules.{at_most_nine}
+use Rattle.grammar.specs.declared.terminal.Terminal.{Terminal}
+use Rattle.grammar.specs.declared.terminal.Terminal.TheVariants as k
+use Rattle.grammar.specs.Rules.{at_most_nine}
+use Rattle.grammar.specs.Lists.{separated}
 use Rattle.pattern_parser.specs.Types.{enclosed, arrow}
-use Rattle.pattern_parser.specs.Reader.{Parser, name, mark, nothing, ◌⊗◌, ◌▷◌, ◌◁◌, ◌<$>◌, choose, optional, many, only, at, spot}
+use Rattle.grammar.specs.Reader.{Outcome, Parser, and_then, name, mark, nothing, ◌⊗◌, ◌▷◌, ◌◁◌, ◌<$>◌, choose, optional, many, only, at, spot}
 
 -- what an argument begins with, and so a type
 abbrev pub arguments_begin : List Terminal
@@ -19,15 +20,13 @@ variable = (λ x. t.Variable x.0 x.1) <$> at (name k.Lower)
 unfoldable pub bare : Parser TypeTree
 bare = (λ x. t.Named x.0 x.1 []) <$> at (name k.Upper)
 
+-- what is read behind a name, of that name
+abbrev pub named_by : {A : Type 0} → Spot → Outcome (Spot → A) → Outcome A
+named_by name r = and_then r (λ made us. Some (made name, us))
+
 module _ (whole : Parser TypeTree) where
-  unfoldable pub next : Parser TypeTree
-  next = mark k.Comma ▷ whole
-
-  unfoldable pub types : Parser (List TypeTree)
-  types = (λ x. x.0 ∷ x.1) <$> whole ⊗ many (k.Comma ∷ []) next
-
   unfoldable pub inside_brackets : Parser (List TypeTree)
-  inside_brackets = only at_most_nine (choose arguments_begin types (nothing []))
+  inside_brackets = only at_most_nine (choose arguments_begin (separated whole) (nothing []))
 
   unfoldable pub brackets : Parser TypeTree
   brackets = enclosed <$> at (mark k.LeftParen ▷ inside_brackets ◁ mark k.RightParen)
@@ -41,11 +40,8 @@ module _ (whole : Parser TypeTree) where
   unfoldable pub more_fields : Parser (List (Spot × TypeTree))
   more_fields = many (k.Comma ∷ []) next_field
 
-  unfoldable pub fields : Parser (List (Spot × TypeTree))
-  fields = (λ x. x.0 ∷ x.1) <$> field ⊗ more_fields
-
   unfoldable pub behind_variable : Parser (Spot → Option Spot × List (Spot × TypeTree))
-  behind_variable = (λ fields first. (Some first, fields)) <$> mark k.Bar ▷ fields
+  behind_variable = (λ fields first. (Some first, fields)) <$> mark k.Bar ▷ separated field
 
   unfoldable pub behind_label : Parser (Spot → Option Spot × List (Spot × TypeTree))
   behind_label = (λ x first. (None, (first, x.0) ∷ x.1)) <$> (mark k.Colon ▷ whole) ⊗ more_fields

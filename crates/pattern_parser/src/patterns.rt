@@ -2,20 +2,40 @@
 ghost use Rattle.std.specs.Prelude.{◌≡◌, ◌≢◌, ◌≤◌, [], ◌∷◌, List, Option, Some, None, map, IfOk, IfErr, MatchResult};
 ghost use Rattle.elm_base.specs.declared.memory.Halt.TheVariants as halt;
 ghost use Rattle.elm_base.specs.declared.tree.Pattern.{Pattern};
-ghost use Rattle.pattern_parser.specs.Terminals.{Lexeme, lexeme, starts};
-ghost use Rattle.pattern_parser.specs.Reader.{Reads, with_front};
+ghost use Rattle.elm_base.specs.Lexemes.{Lexeme, lexeme};
+ghost use Rattle.grammar.specs.Terminals.{starts};
+ghost use Rattle.grammar.specs.Reader.{Reads, with_front};
+ghost use Rattle.grammar.specs.Lists as list;
+ghost use Rattle.grammar.specs.Reader as reader;
 ghost use Rattle.tree_nesting.specs.Nesting.{max_nesting, pattern_nesting};
 ghost use Rattle.pattern_parser.specs.Patterns as grammar;
 ghost use Rattle.pattern_parser.specs.Patterns.{DerivesPattern};
 ghost use Rattle.pattern_parser.specs.PatternReader as spec;
 ghost use Rattle.pattern_parser.specs.PatternCalls.{ReadsPatterns};
 
-use crate::cursor::{Cursor, MOST_PARTS, NoTree};
-use crate::terminal::Terminal;
 use elm_base::{At, Halt, Pattern, Spot, Token};
+use grammar::{
+    Cursor, MOST_PARTS, NoTree, Terminal, boxed_pair, entire, many, paired, separated, terminated,
+    verified,
+};
 use sqlite_items::{Boxed, Items};
 use std::alloc::{AllocError, Global};
 use tree_nesting::{MOST_NESTING, pattern_nests_within};
+
+/// What a pattern begins with, as well as a part of one.
+const PATTERNS: [Terminal; 9] = [
+    Terminal::Upper,
+    Terminal::Underscore,
+    Terminal::Lower,
+    Terminal::Int,
+    Terminal::Char,
+    Terminal::Text,
+    Terminal::LeftBracket,
+    Terminal::LeftParen,
+    Terminal::LeftBrace,
+];
+
+const LITERALS: [Terminal; 3] = [Terminal::Int, Terminal::Char, Terminal::Text];
 
 /// Of a pattern that nests within the limit, so many patterns without `as` stand inside each other at most.
 const DEPTH: usize = 101;
@@ -93,24 +113,12 @@ fn bare(alloc: Global, tokens: &mut Cursor<'_>) -> Result<Pattern, Halt<NoTree>>
     })
 }
 
-#[tactic(auto, unfolding(crate::specs::PatternReader::next_spot))]
-fn next_spot(alloc: Global, tokens: &mut Cursor<'_>) -> Result<Spot, Halt<NoTree>>
-    ensures { Reads (spec.next_spot tokens.old) result tokens.new }
-{
-    tokens.expect(Terminal::Comma)?;
-    tokens.spot(alloc)
-}
-
 /// One or more names with commas between.
 fn spots(alloc: Global, tokens: &mut Cursor<'_>) -> Result<Items<Spot>, Halt<NoTree>>
-    ensures { Reads (spec.spots tokens.old) result tokens.new }
+    ensures { Reads (list.separated reader.spot tokens.old) result tokens.new }
 {
-    let mut found = Items::new(alloc);
-    found.push(tokens.spot(alloc)?)?;
-    'turns: while tokens.sees(Terminal::Comma) {
-        found.push(next_spot(alloc, tokens)?)?;
-    }
-    Ok(found)
+    let spot = |tokens: &mut Cursor<'_>| tokens.spot(alloc);
+    separated(alloc, spot, tokens)
 }
 
 /// The labels of a record.
@@ -120,8 +128,7 @@ pub fn labels(alloc: Global, tokens: &mut Cursor<'_>) -> Result<Pattern, Halt<No
 {
     let at = tokens.here()?;
     tokens.expect(Terminal::LeftBrace)?;
-    let labels = spots(alloc, tokens)?;
-    tokens.expect(Terminal::RightBrace)?;
+    let labels = terminated(spots(alloc, tokens)?, tokens, Terminal::RightBrace)?;
     Ok(Pattern::Fields { at, labels })
 }
 
@@ -142,19 +149,7 @@ fn alias(alloc: Global, tokens: &mut Cursor<'_>) -> Result<Option<Spot>, Halt<No
 pub fn begins_pattern(tokens: &Cursor<'_>) -> bool
     ensures { result ≡ starts spec.patterns_begin tokens.now }
 {
-    tokens.sees(Terminal::Upper)
-        || tokens.sees(Terminal::Underscore)
-        || tokens.sees(Terminal::Lower)
-        || begins_literal(tokens)
-        || tokens.sees(Terminal::LeftBracket)
-        || tokens.sees(Terminal::LeftParen)
-        || tokens.sees(Terminal::LeftBrace)
-}
-
-fn begins_literal(tokens: &Cursor<'_>) -> bool
-    ensures { result ≡ starts spec.literals_begin tokens.now }
-{
-    tokens.sees(Terminal::Int) || tokens.sees(Terminal::Char) || tokens.sees(Terminal::Text)
+    tokens.sees_any(&PATTERNS)
 }
 
 /// What brackets round these patterns make.
@@ -182,8 +177,7 @@ fn consed(
     match tail {
         None => Ok(head),
         Some(tail) => {
-            let head = Boxed::new(alloc, head)?;
-            let tail = Boxed::new(alloc, tail)?;
+            let (head, tail) = boxed_pair(alloc, head, tail)?;
             Ok(Pattern::Cons { at, head, tail })
         }
     }
@@ -292,31 +286,17 @@ impl<F: Fn(Global, usize, &mut Cursor<'_>) -> Result<Pattern, Halt<NoTree>>> Pat
         ensures { Reads (spec.whole (spec.cons_at self.now.depth) tokens.old) result tokens.new }
     {
         let at = tokens.here()?;
-        let inner = self.cons(tokens)?;
-        let name = alias(self.alloc, tokens)?;
+        let (inner, name) = paired(self.cons(tokens)?, alias(self.alloc, tokens))?;
         Ok(named(self.alloc, at, inner, name)?)
-    }
-
-    #[tactic(auto, unfolding(crate::specs::PatternReader::next))]
-    fn next(&self, tokens: &mut Cursor<'_>) -> Result<Pattern, Halt<NoTree>>
-        requires { ReadsPatterns self.now.depth (F.pre self.now.cons) (F.post self.now.cons) }
-        ensures { Reads (spec.next (spec.cons_at self.now.depth) tokens.old) result tokens.new }
-    {
-        tokens.expect(Terminal::Comma)?;
-        self.whole(tokens)
     }
 
     /// One or more patterns with commas between.
     fn patterns(&self, tokens: &mut Cursor<'_>) -> Result<Items<Pattern>, Halt<NoTree>>
         requires { ReadsPatterns self.now.depth (F.pre self.now.cons) (F.post self.now.cons) }
-        ensures { Reads (spec.patterns (spec.cons_at self.now.depth) tokens.old) result tokens.new }
+        ensures { Reads (list.separated (spec.whole (spec.cons_at self.now.depth)) tokens.old) result tokens.new }
     {
-        let mut found = Items::new(self.alloc);
-        found.push(self.whole(tokens)?)?;
-        'turns: while tokens.sees(Terminal::Comma) {
-            found.push(self.next(tokens)?)?;
-        }
-        Ok(found)
+        let whole = |tokens: &mut Cursor<'_>| self.whole(tokens);
+        separated(self.alloc, whole, tokens)
     }
 
     #[tactic(auto, unfolding(crate::specs::PatternReader::any_patterns))]
@@ -338,8 +318,7 @@ impl<F: Fn(Global, usize, &mut Cursor<'_>) -> Result<Pattern, Halt<NoTree>>> Pat
     {
         let at = tokens.here()?;
         tokens.expect(Terminal::LeftBracket)?;
-        let parts = self.any_patterns(tokens)?;
-        tokens.expect(Terminal::RightBracket)?;
+        let parts = terminated(self.any_patterns(tokens)?, tokens, Terminal::RightBracket)?;
         Ok(Pattern::List { at, parts })
     }
 
@@ -349,11 +328,8 @@ impl<F: Fn(Global, usize, &mut Cursor<'_>) -> Result<Pattern, Halt<NoTree>>> Pat
         ensures { Reads (spec.inside_brackets (spec.cons_at self.now.depth) tokens.old) result tokens.new }
     {
         let found = self.any_patterns(tokens)?;
-        if found.len() <= MOST_PARTS {
-            Ok(found)
-        } else {
-            Err(Halt::Because(NoTree))
-        }
+        let is_tuple = found.len() <= MOST_PARTS;
+        verified(found, is_tuple, Halt::Because(NoTree))
     }
 
     /// `()`, a pattern in brackets, or a tuple.
@@ -364,8 +340,7 @@ impl<F: Fn(Global, usize, &mut Cursor<'_>) -> Result<Pattern, Halt<NoTree>>> Pat
     {
         let at = tokens.here()?;
         tokens.expect(Terminal::LeftParen)?;
-        let parts = self.inside_brackets(tokens)?;
-        tokens.expect(Terminal::RightParen)?;
+        let parts = terminated(self.inside_brackets(tokens)?, tokens, Terminal::RightParen)?;
         Ok(enclosed(self.alloc, at, parts)?)
     }
 
@@ -378,7 +353,7 @@ impl<F: Fn(Global, usize, &mut Cursor<'_>) -> Result<Pattern, Halt<NoTree>>> Pat
             anything(tokens)
         } else if tokens.sees(Terminal::Lower) {
             variable(self.alloc, tokens)
-        } else if begins_literal(tokens) {
+        } else if tokens.sees_any(&LITERALS) {
             literal(self.alloc, tokens)
         } else if tokens.sees(Terminal::LeftBracket) {
             self.list(tokens)
@@ -406,11 +381,8 @@ impl<F: Fn(Global, usize, &mut Cursor<'_>) -> Result<Pattern, Halt<NoTree>>> Pat
         requires { ReadsPatterns self.now.depth (F.pre self.now.cons) (F.post self.now.cons) }
         ensures { Reads (spec.parts (spec.cons_at self.now.depth) tokens.old) result tokens.new }
     {
-        let mut found = Items::new(self.alloc);
-        'turns: while begins_pattern(tokens) {
-            found.push(self.part(tokens)?)?;
-        }
-        Ok(found)
+        let part = |tokens: &mut Cursor<'_>| self.part(tokens);
+        many(self.alloc, &PATTERNS, part, tokens)
     }
 
     /// A constructor with its parts.
@@ -421,7 +393,7 @@ impl<F: Fn(Global, usize, &mut Cursor<'_>) -> Result<Pattern, Halt<NoTree>>> Pat
     {
         let at = tokens.here()?;
         let constructor = tokens.name(self.alloc, Terminal::Upper)?;
-        let parts = self.parts(tokens)?;
+        let (constructor, parts) = paired(constructor, self.parts(tokens))?;
         Ok(Pattern::Made {
             at,
             constructor,
@@ -461,8 +433,7 @@ impl<F: Fn(Global, usize, &mut Cursor<'_>) -> Result<Pattern, Halt<NoTree>>> Pat
         ensures { Reads (spec.level (spec.cons_at self.now.depth) tokens.old) result tokens.new }
     {
         let at = tokens.here()?;
-        let head = self.operand(tokens)?;
-        let tail = self.tail(tokens)?;
+        let (head, tail) = paired(self.operand(tokens)?, self.tail(tokens))?;
         Ok(consed(self.alloc, at, head, tail)?)
     }
 }
@@ -473,20 +444,16 @@ pub fn pattern(alloc: Global, tokens: &[Token<'_>]) -> Result<Pattern, Halt<NoTr
     ensures derives { IfOk result (λ tree. DerivesPattern (map lexeme tokens.now) tree) }
     ensures nests { IfOk result (λ tree. pattern_nesting tree ≤ max_nesting) }
     // A pattern that derives and nests so is given, unless memory runs out.
-    ensures found { (tree : Pattern) → DerivesPattern (map lexeme tokens.now) tree → pattern_nesting tree ≤ max_nesting →
+    ensures found { (tree : Pattern) → DerivesPattern (map lexeme tokens.now) tree →
+        pattern_nesting tree ≤ max_nesting →
         MatchResult result (λ found. found ≡ tree) (λ cause. cause ≡ halt.NoMemory) }
-    ensures refused { IfErr result (λ cause. cause ≢ halt.NoMemory → (tree : Pattern) → DerivesPattern (map lexeme tokens.now) tree →
-        pattern_nesting tree ≤ max_nesting → ⊥) }
+    ensures refused { IfErr result (λ cause. cause ≢ halt.NoMemory → (tree : Pattern) →
+        DerivesPattern (map lexeme tokens.now) tree → pattern_nesting tree ≤ max_nesting → ⊥) }
 {
     let mut cursor = Cursor::new(tokens);
     let found = pattern_at(alloc, DEPTH, &mut cursor)?;
-    if !cursor.is_empty() {
-        return Err(Halt::Because(NoTree));
-    }
-    if !pattern_nests_within(&found, MOST_NESTING) {
-        return Err(Halt::Because(NoTree));
-    }
-    Ok(found)
+    let nests = pattern_nests_within(&found, MOST_NESTING);
+    entire(found, &cursor, nests)
 }
 
 /// A list of tokens stands for at most one pattern, however deep it nests.

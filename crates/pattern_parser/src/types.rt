@@ -2,25 +2,41 @@
 ghost use Rattle.std.specs.Prelude.{◌≡◌, ◌≢◌, ◌≤◌, [], ◌∷◌, List, Option, Some, None, map, IfOk, IfErr, MatchResult};
 ghost use Rattle.elm_base.specs.declared.memory.Halt.TheVariants as halt;
 ghost use Rattle.elm_base.specs.declared.tree.TypeTree.{TypeTree};
-ghost use Rattle.pattern_parser.specs.Terminals.{Lexeme, lexeme, starts};
-ghost use Rattle.pattern_parser.specs.Reader.{Reads, with_front};
+ghost use Rattle.elm_base.specs.Lexemes.{Lexeme, lexeme};
+ghost use Rattle.grammar.specs.Terminals.{starts};
+ghost use Rattle.grammar.specs.Reader.{Reads, with_front};
+ghost use Rattle.grammar.specs.Lists as list;
 ghost use Rattle.tree_nesting.specs.Nesting.{max_nesting, type_nesting};
 ghost use Rattle.pattern_parser.specs.Types as grammar;
 ghost use Rattle.pattern_parser.specs.Types.{DerivesType};
 ghost use Rattle.pattern_parser.specs.TypeReader as spec;
+ghost use Rattle.pattern_parser.specs.TypeReader.{named_by};
 ghost use Rattle.pattern_parser.specs.TypeCalls.{ReadsTypes};
 
-use crate::cursor::{Cursor, MOST_PARTS, NoTree};
-use crate::terminal::Terminal;
 use elm_base::{At, Halt, Spot, Token, TypeTree};
+use grammar::{
+    Cursor, MOST_PARTS, NoTree, Terminal, boxed_pair, entire, many, many_more, paired, separated,
+    terminated, verified,
+};
 use sqlite_items::{Boxed, Items};
 use std::alloc::{AllocError, Global};
 use tree_nesting::{MOST_NESTING, type_nests_within};
+
+/// What an argument begins with, and so a type.
+const ARGUMENTS: [Terminal; 4] = [
+    Terminal::Upper,
+    Terminal::Lower,
+    Terminal::LeftParen,
+    Terminal::LeftBrace,
+];
 
 /// Of a type that nests within the limit, so many whole types stand inside each other at most.
 const DEPTH: usize = 101;
 
 type FieldOfType = (Spot, TypeTree);
+
+/// The variable before a bar, if there is one, and the fields.
+type Inside = (Option<Spot>, Items<FieldOfType>);
 
 #[tactic(auto, unfolding(crate::specs::TypeReader::variable))]
 fn variable(alloc: Global, tokens: &mut Cursor<'_>) -> Result<TypeTree, Halt<NoTree>>
@@ -44,15 +60,6 @@ fn bare(alloc: Global, tokens: &mut Cursor<'_>) -> Result<TypeTree, Halt<NoTree>
         name,
         arguments,
     })
-}
-
-fn begins_argument(tokens: &Cursor<'_>) -> bool
-    ensures { result ≡ starts spec.arguments_begin tokens.now }
-{
-    tokens.sees(Terminal::Upper)
-        || tokens.sees(Terminal::Lower)
-        || tokens.sees(Terminal::LeftParen)
-        || tokens.sees(Terminal::LeftBrace)
 }
 
 /// What brackets round these types make.
@@ -80,8 +87,7 @@ fn arrow(
     match to {
         None => Ok(from),
         Some(to) => {
-            let from = Boxed::new(alloc, from)?;
-            let to = Boxed::new(alloc, to)?;
+            let (from, to) = boxed_pair(alloc, from, to)?;
             Ok(TypeTree::Arrow { at, from, to })
         }
     }
@@ -122,26 +128,13 @@ impl<F: Fn(Global, usize, &mut Cursor<'_>) -> Result<TypeTree, Halt<NoTree>>> Ty
         (self.whole)(self.alloc, self.depth, tokens)
     }
 
-    #[tactic(auto, unfolding(crate::specs::TypeReader::next))]
-    fn next(&self, tokens: &mut Cursor<'_>) -> Result<TypeTree, Halt<NoTree>>
-        requires { ReadsTypes self.now.depth (F.pre self.now.whole) (F.post self.now.whole) }
-        ensures { Reads (spec.next (spec.type_at self.now.depth) tokens.old) result tokens.new }
-    {
-        tokens.expect(Terminal::Comma)?;
-        self.whole(tokens)
-    }
-
     /// One or more types with commas between.
     fn types(&self, tokens: &mut Cursor<'_>) -> Result<Items<TypeTree>, Halt<NoTree>>
         requires { ReadsTypes self.now.depth (F.pre self.now.whole) (F.post self.now.whole) }
-        ensures { Reads (spec.types (spec.type_at self.now.depth) tokens.old) result tokens.new }
+        ensures { Reads (list.separated (spec.type_at self.now.depth) tokens.old) result tokens.new }
     {
-        let mut found = Items::new(self.alloc);
-        found.push(self.whole(tokens)?)?;
-        'turns: while tokens.sees(Terminal::Comma) {
-            found.push(self.next(tokens)?)?;
-        }
-        Ok(found)
+        let whole = |tokens: &mut Cursor<'_>| self.whole(tokens);
+        separated(self.alloc, whole, tokens)
     }
 
     #[tactic(auto, unfolding(crate::specs::TypeReader::inside_brackets))]
@@ -149,15 +142,12 @@ impl<F: Fn(Global, usize, &mut Cursor<'_>) -> Result<TypeTree, Halt<NoTree>>> Ty
         requires { ReadsTypes self.now.depth (F.pre self.now.whole) (F.post self.now.whole) }
         ensures { Reads (spec.inside_brackets (spec.type_at self.now.depth) tokens.old) result tokens.new }
     {
-        if !begins_argument(tokens) {
+        if !tokens.sees_any(&ARGUMENTS) {
             return Ok(Items::new(self.alloc));
         }
         let found = self.types(tokens)?;
-        if found.len() <= MOST_PARTS {
-            Ok(found)
-        } else {
-            Err(Halt::Because(NoTree))
-        }
+        let is_tuple = found.len() <= MOST_PARTS;
+        verified(found, is_tuple, Halt::Because(NoTree))
     }
 
     /// `()`, a type in brackets, or a tuple.
@@ -168,8 +158,7 @@ impl<F: Fn(Global, usize, &mut Cursor<'_>) -> Result<TypeTree, Halt<NoTree>>> Ty
     {
         let at = tokens.here()?;
         tokens.expect(Terminal::LeftParen)?;
-        let parts = self.inside_brackets(tokens)?;
-        tokens.expect(Terminal::RightParen)?;
+        let parts = terminated(self.inside_brackets(tokens)?, tokens, Terminal::RightParen)?;
         Ok(enclosed(self.alloc, at, parts)?)
     }
 
@@ -178,10 +167,8 @@ impl<F: Fn(Global, usize, &mut Cursor<'_>) -> Result<TypeTree, Halt<NoTree>>> Ty
         requires { ReadsTypes self.now.depth (F.pre self.now.whole) (F.post self.now.whole) }
         ensures { Reads (spec.field (spec.type_at self.now.depth) tokens.old) result tokens.new }
     {
-        let label = tokens.spot(self.alloc)?;
-        tokens.expect(Terminal::Colon)?;
-        let written = self.whole(tokens)?;
-        Ok((label, written))
+        let label = terminated(tokens.spot(self.alloc)?, tokens, Terminal::Colon)?;
+        paired(label, self.whole(tokens))
     }
 
     #[tactic(auto, unfolding(crate::specs::TypeReader::next_field))]
@@ -200,52 +187,67 @@ impl<F: Fn(Global, usize, &mut Cursor<'_>) -> Result<TypeTree, Halt<NoTree>>> Ty
         tokens: &mut Cursor<'_>,
     ) -> Result<Items<FieldOfType>, Halt<NoTree>>
         requires { ReadsTypes self.now.depth (F.pre self.now.whole) (F.post self.now.whole) }
-        ensures { Reads (with_front (first ∷ []) (spec.more_fields (spec.type_at self.now.depth) tokens.old)) result tokens.new }
+        ensures { Reads (with_front (first ∷ []) (spec.more_fields (spec.type_at self.now.depth) tokens.old))
+            result tokens.new }
     {
         let mut found = Items::new(self.alloc);
         found.push(first)?;
-        'turns: while tokens.sees(Terminal::Comma) {
-            found.push(self.next_field(tokens)?)?;
-        }
-        Ok(found)
+        let next = |tokens: &mut Cursor<'_>| self.next_field(tokens);
+        many_more(found, &[Terminal::Comma], next, tokens)
     }
 
     /// One or more fields with commas between.
-    #[tactic(auto, unfolding(crate::specs::TypeReader::fields))]
     fn fields(&self, tokens: &mut Cursor<'_>) -> Result<Items<FieldOfType>, Halt<NoTree>>
         requires { ReadsTypes self.now.depth (F.pre self.now.whole) (F.post self.now.whole) }
-        ensures { Reads (spec.fields (spec.type_at self.now.depth) tokens.old) result tokens.new }
+        ensures { Reads (list.separated (spec.field (spec.type_at self.now.depth)) tokens.old) result tokens.new }
     {
-        let first = self.field(tokens)?;
-        self.fields_from(first, tokens)
+        let field = |tokens: &mut Cursor<'_>| self.field(tokens);
+        separated(self.alloc, field, tokens)
+    }
+
+    /// The fields behind a bar, which stands behind the variable.
+    #[tactic(auto, unfolding(crate::specs::TypeReader::behind_variable))]
+    fn behind_variable(
+        &self,
+        variable: Spot,
+        tokens: &mut Cursor<'_>,
+    ) -> Result<Inside, Halt<NoTree>>
+        requires { ReadsTypes self.now.depth (F.pre self.now.whole) (F.post self.now.whole) }
+        ensures { Reads (named_by variable (spec.behind_variable (spec.type_at self.now.depth) tokens.old))
+            result tokens.new }
+    {
+        tokens.expect(Terminal::Bar)?;
+        paired(Some(variable), self.fields(tokens))
+    }
+
+    /// The type of the first field and more fields, behind the label of the first.
+    #[tactic(auto, unfolding(crate::specs::TypeReader::behind_label))]
+    fn behind_label(&self, label: Spot, tokens: &mut Cursor<'_>) -> Result<Inside, Halt<NoTree>>
+        requires { ReadsTypes self.now.depth (F.pre self.now.whole) (F.post self.now.whole) }
+        ensures { Reads (named_by label (spec.behind_label (spec.type_at self.now.depth) tokens.old))
+            result tokens.new }
+    {
+        tokens.expect(Terminal::Colon)?;
+        let first = paired(label, self.whole(tokens))?;
+        paired(None, self.fields_from(first, tokens))
     }
 
     /// The variable before a bar, if the name is one, and the fields.
-    #[tactic(auto, unfolding(crate::specs::TypeReader::named_fields, crate::specs::TypeReader::behind_variable, crate::specs::TypeReader::behind_label))]
-    fn named_fields(
-        &self,
-        tokens: &mut Cursor<'_>,
-    ) -> Result<(Option<Spot>, Items<FieldOfType>), Halt<NoTree>>
+    #[tactic(auto, unfolding(crate::specs::TypeReader::named_fields))]
+    fn named_fields(&self, tokens: &mut Cursor<'_>) -> Result<Inside, Halt<NoTree>>
         requires { ReadsTypes self.now.depth (F.pre self.now.whole) (F.post self.now.whole) }
         ensures { Reads (spec.named_fields (spec.type_at self.now.depth) tokens.old) result tokens.new }
     {
-        let first = tokens.spot(self.alloc)?;
+        let name = tokens.spot(self.alloc)?;
         if tokens.sees(Terminal::Bar) {
-            tokens.expect(Terminal::Bar)?;
-            let fields = self.fields(tokens)?;
-            return Ok((Some(first), fields));
+            self.behind_variable(name, tokens)
+        } else {
+            self.behind_label(name, tokens)
         }
-        tokens.expect(Terminal::Colon)?;
-        let written = self.whole(tokens)?;
-        let fields = self.fields_from((first, written), tokens)?;
-        Ok((None, fields))
     }
 
     #[tactic(auto, unfolding(crate::specs::TypeReader::inside_braces))]
-    fn inside_braces(
-        &self,
-        tokens: &mut Cursor<'_>,
-    ) -> Result<(Option<Spot>, Items<FieldOfType>), Halt<NoTree>>
+    fn inside_braces(&self, tokens: &mut Cursor<'_>) -> Result<Inside, Halt<NoTree>>
         requires { ReadsTypes self.now.depth (F.pre self.now.whole) (F.post self.now.whole) }
         ensures { Reads (spec.inside_braces (spec.type_at self.now.depth) tokens.old) result tokens.new }
     {
@@ -264,8 +266,11 @@ impl<F: Fn(Global, usize, &mut Cursor<'_>) -> Result<TypeTree, Halt<NoTree>>> Ty
     {
         let at = tokens.here()?;
         tokens.expect(Terminal::LeftBrace)?;
-        let (before, fields) = self.inside_braces(tokens)?;
-        tokens.expect(Terminal::RightBrace)?;
+        let (before, fields) = terminated(
+            self.inside_braces(tokens)?,
+            tokens,
+            Terminal::RightBrace,
+        )?;
         Ok(TypeTree::Fields { at, before, fields })
     }
 
@@ -300,11 +305,8 @@ impl<F: Fn(Global, usize, &mut Cursor<'_>) -> Result<TypeTree, Halt<NoTree>>> Ty
         requires { ReadsTypes self.now.depth (F.pre self.now.whole) (F.post self.now.whole) }
         ensures { Reads (spec.arguments (spec.type_at self.now.depth) tokens.old) result tokens.new }
     {
-        let mut found = Items::new(self.alloc);
-        'turns: while begins_argument(tokens) {
-            found.push(self.argument(tokens)?)?;
-        }
-        Ok(found)
+        let argument = |tokens: &mut Cursor<'_>| self.argument(tokens);
+        many(self.alloc, &ARGUMENTS, argument, tokens)
     }
 
     #[tactic(auto, unfolding(crate::specs::TypeReader::applied))]
@@ -314,7 +316,7 @@ impl<F: Fn(Global, usize, &mut Cursor<'_>) -> Result<TypeTree, Halt<NoTree>>> Ty
     {
         let at = tokens.here()?;
         let name = tokens.name(self.alloc, Terminal::Upper)?;
-        let arguments = self.arguments(tokens)?;
+        let (name, arguments) = paired(name, self.arguments(tokens))?;
         Ok(TypeTree::Named {
             at,
             name,
@@ -354,8 +356,7 @@ impl<F: Fn(Global, usize, &mut Cursor<'_>) -> Result<TypeTree, Halt<NoTree>>> Ty
         ensures { Reads (spec.level (spec.type_at self.now.depth) tokens.old) result tokens.new }
     {
         let at = tokens.here()?;
-        let from = self.operand(tokens)?;
-        let to = self.target(tokens)?;
+        let (from, to) = paired(self.operand(tokens)?, self.target(tokens))?;
         Ok(arrow(self.alloc, at, from, to)?)
     }
 }
@@ -368,18 +369,13 @@ pub fn type_text(alloc: Global, tokens: &[Token<'_>]) -> Result<TypeTree, Halt<N
     // A type that derives and nests so is given, unless memory runs out.
     ensures found { (tree : TypeTree) → DerivesType (map lexeme tokens.now) tree → type_nesting tree ≤ max_nesting →
         MatchResult result (λ found. found ≡ tree) (λ cause. cause ≡ halt.NoMemory) }
-    ensures refused { IfErr result (λ cause. cause ≢ halt.NoMemory → (tree : TypeTree) → DerivesType (map lexeme tokens.now) tree →
-        type_nesting tree ≤ max_nesting → ⊥) }
+    ensures refused { IfErr result (λ cause. cause ≢ halt.NoMemory → (tree : TypeTree) →
+        DerivesType (map lexeme tokens.now) tree → type_nesting tree ≤ max_nesting → ⊥) }
 {
     let mut cursor = Cursor::new(tokens);
     let found = type_at(alloc, DEPTH, &mut cursor)?;
-    if !cursor.is_empty() {
-        return Err(Halt::Because(NoTree));
-    }
-    if !type_nests_within(&found, MOST_NESTING) {
-        return Err(Halt::Because(NoTree));
-    }
-    Ok(found)
+    let nests = type_nests_within(&found, MOST_NESTING);
+    entire(found, &cursor, nests)
 }
 
 /// A list of tokens stands for at most one type, however deep it nests.

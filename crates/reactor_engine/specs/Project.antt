@@ -8,8 +8,8 @@ use Rattle.elm_base.specs.declared.token.TokenKind.TheVariants as token
 use Rattle.elm_base.specs.declared.fault.FaultKind.{FaultKind}
 use Rattle.elm_base.specs.declared.fault.FaultKind.TheVariants as kind
 use Rattle.elm_base.specs.declared.fault.ProjectFault.{ProjectFault}
+use Rattle.elm_base.specs.Lexemes.{Lexeme}
 use Rattle.layout_lexer.specs.declared.place.TextFault.{TextFault}
-use Rattle.layout_lexer.specs.Lexemes.{Lexeme}
 use Rattle.layout_lexer.specs.Tokens.{Tokens, FirstFault}
 use Rattle.reactor_outside.specs.Shelf.{Files}
 use Rattle.elm_base.specs.Letters.{is_letter, is_digit}
@@ -49,7 +49,7 @@ agree false other = not other
 
 -- a token stands in the first column exactly where it begins a declaration
 abbrev pub stands_rightly : Lexeme → Bool
-stands_rightly t = agree (t.column == 1) (begins_line t.text)
+stands_rightly t = agree (t.at.column == 1) (begins_line t.text)
 
 abbrev pub is_lower : TokenKind → Bool
 is_lower token.Lower = true

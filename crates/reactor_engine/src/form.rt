@@ -3,7 +3,7 @@ ghost use Rattle.std.specs.Prelude.{◌≡◌, ◌||◌, map, codes, Some};
 ghost use Rattle.std.specs.Str.{bytes_eq};
 ghost use Rattle.std.specs.List.{list_all};
 ghost use Rattle.std.specs.Option.{option_copied};
-ghost use Rattle.layout_lexer.specs.Lexemes.{lexeme};
+ghost use Rattle.elm_base.specs.Lexemes.{lexeme};
 ghost use Rattle.elm_base.specs.Letters.{is_letter, is_digit};
 ghost use Rattle.reactor_engine.specs.Project as spec;
 
@@ -21,7 +21,8 @@ pub fn port_of<'a>(tokens: &[Token<'a>]) -> Option<&'a [u8]>
 }
 
 fn port_at<'a>(tokens: &[Token<'a>], port: &Token<'a>) -> Option<&'a [u8]>
-    ensures { option_copied result ≡ spec.port_among (map lexeme tokens.now) (Some (lexeme port.now)) }
+    ensures { option_copied result ≡ spec.port_among (map lexeme tokens.now)
+        (Some (lexeme port.now)) }
 {
     if have_form(tokens, port) {
         Some(port.text)

@@ -181,7 +181,8 @@ fn sets_nest_below(sets: &[Set], limit: u32) -> bool
 /// Whether the branches of a multi-way `if` nest less deep. Another expression has none.
 #[cycle(expressions)]
 fn guards_nest_below(tree: &Expr, limit: u32) -> bool
-    ensures { IsTrue result ↔ (around (map (λ branch. max (expr_nesting branch.0) (expr_nesting branch.1)) (guards_of tree.now)) ≤ limit) }
+    ensures { IsTrue result ↔
+        (around (map (λ branch. max (expr_nesting branch.0) (expr_nesting branch.1)) (guards_of tree.now)) ≤ limit) }
 {
     let Expr::Guards { branches, .. } = tree else {
         return true;
@@ -201,7 +202,8 @@ fn guards_nest_below(tree: &Expr, limit: u32) -> bool
 /// Whether the branches of a `case` nest less deep. Another expression has none.
 #[cycle(expressions)]
 fn branches_nest_below(tree: &Expr, limit: u32) -> bool
-    ensures { IsTrue result ↔ (around (map (λ branch. max (pattern_nesting branch.0) (expr_nesting branch.1)) (branches_of tree.now)) ≤ limit) }
+    ensures { IsTrue result ↔
+        (around (map (λ branch. max (pattern_nesting branch.0) (expr_nesting branch.1)) (branches_of tree.now)) ≤ limit) }
 {
     let Expr::Case { branches, .. } = tree else {
         return true;

@@ -1,5 +1,5 @@
 //! Reads two numbers from standard input, unifies a closed row of as many labels as the first with itself in the
-//! other order, then links as many variables as the second one after another. `bench/types.sh` times it.
+//! other order, then links as many variables as the second one after another. `bench/bench.py types` times it.
 #![tactic(auto)]
 
 ghost use Rattle.std.specs.Prelude.{IfOk, OnOk};

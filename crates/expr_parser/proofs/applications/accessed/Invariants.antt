@@ -1,5 +1,5 @@
 use Rattle.std.proofs.Common.{◌≡◌, length}
-use Rattle.expr_parser.specs.Expressions.{accessed_at}
+use Rattle.expr_grammar.specs.Expressions.{accessed_at}
 use Rattle.expr_parser.proofs.applications.accessed.Given as goal
 
 -- the labels that are left go on from what was made

@@ -1,27 +1,15 @@
-use Rattle.std.proofs.Common.{refl, sym}
-use Rattle.std.proofs.lemmas.Result.{err_from_is_err_and}
-use Rattle.pattern_parser.specs.Reader.{many}
-use Rattle.pattern_parser.proofs.Turns.{loop_turn, loop_err, loop_ends, with_none}
-use Rattle.expr_parser.proofs.Takes.{access_takes}
+use Rattle.std.proofs.Common.{rules}
+use Rattle.grammar.specs.declared.terminal.Terminal.TheVariants as k
+use Rattle.grammar.specs.Spelling.{label_of}
+use Rattle.grammar.specs.Reader.{spelled}
+use Rattle.expr_grammar.proofs.Takes.{access_takes}
 use Rattle.expr_parser.proofs.applications.labels.Goals as goal
 
-pub turns-init : goal.turns-init
-turns-init c = rw c.new-found.ensures (with_none _)
-
-pub returns-in_err-label : goal.returns-in_err-label
-unfolding many
-returns-in_err-label c =
-    let p = err_from_is_err_and c.from_residual.result c.from_residual.ensures.1 in
-    rw (p.1, p.2) (loop_err _ _ refl access_takes c.turns.found _ c.turns.tokens (sym c.turns-test.ensures) c.in_err-label.ensures c.turns.invariant)
-
-pub turns-smaller : goal.turns-smaller
-turns-smaller c = access_takes _ _ _ c.in_ok-label.ensures
-
-pub turns-preserved : goal.turns-preserved
-unfolding many
-turns-preserved c =
-    rw c.in_ok-push.ensures.ok (loop_turn _ _ refl access_takes c.turns.found _ c.turns.tokens _ (sym c.turns-test.ensures) c.in_ok-label.ensures c.turns.invariant)
+pub many-requires : goal.many-requires
+many-requires c =
+    (spelled k.Access label_of, record { callable = λ old. search rules; reads = λ old new r post. search rules; takes = access_takes })
 
 pub returns : goal.returns
-unfolding many
-returns c = loop_ends _ _ c.turns.found c.turns.tokens (sym c.turns-test.ensures) c.turns.invariant
+returns c =
+    c.many.ensures (spelled k.Access label_of)
+    (record { callable = λ old. search rules; reads = λ old new r post. search rules; takes = access_takes })

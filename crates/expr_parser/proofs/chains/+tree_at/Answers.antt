@@ -1,6 +1,6 @@
 use Rattle.std.proofs.Common.{◌≡◌, true, false, ap, arith}
-use Rattle.pattern_parser.proofs.Depth.{deeper}
-use Rattle.expr_parser.specs.ExprReader.{tree_at}
+use Rattle.grammar.proofs.Depth.{deeper}
+use Rattle.expr_grammar.specs.ExprReader.{tree_at}
 use Rattle.expr_parser.proofs.chains.+tree_at.Goals as goal
 
 pub returns-then-depth-eq0 : goal.returns-then-depth-eq0

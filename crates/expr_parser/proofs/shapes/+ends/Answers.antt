@@ -1,8 +1,8 @@
 use Rattle.std.proofs.Common.{sym, ◌∙◌, ap}
 use Rattle.elm_base.specs.declared.tree.Expr.{Expr}
 use Rattle.elm_base.specs.declared.tree.Pattern.{Pattern}
-use Rattle.expr_parser.specs.Expressions.{ends_in_guards}
-use Rattle.expr_parser.proofs.GuardLaws.{of_case}
+use Rattle.expr_grammar.specs.Expressions.{ends_in_guards}
+use Rattle.expr_grammar.proofs.GuardLaws.{of_case}
 use Rattle.expr_parser.proofs.LastLaws.{last_at}
 use Rattle.expr_parser.proofs.shapes.+ends.Goals as goal
 

@@ -1,5 +1,5 @@
 use Rattle.std.proofs.Common.{◌≡◌, length}
-use Rattle.expr_parser.specs.Expressions as grammar
+use Rattle.expr_grammar.specs.Expressions as grammar
 use Rattle.expr_parser.proofs.shapes.annotations_stand.Given as goal
 
 -- what is left decides

@@ -1,7 +1,7 @@
 use Rattle.std.proofs.Common.{◌≡◌, map, List, [], ◌++◌, sym, ap, ◌∙◌, append-nil, take-append-drop}
 use Rattle.std.specs.Prelude.{Option}
 use Rattle.elm_base.specs.declared.token.TokenKind.{TokenKind}
-use Rattle.layout_lexer.specs.Lexemes.{lexeme, Lexeme}
+use Rattle.elm_base.specs.Lexemes.{lexeme, Lexeme}
 use Rattle.layout_lexer.specs.Cuts.{listed}
 use Rattle.layout_lexer.proofs.Lexing.{read_next, pushed}
 use Rattle.layout_lexer.proofs.lexer.scan.Goals as goal

@@ -1,5 +1,5 @@
 use Rattle.std.proofs.Common.{map, length}
-use Rattle.layout_lexer.specs.Lexemes.{lexeme}
+use Rattle.elm_base.specs.Lexemes.{lexeme}
 use Rattle.layout_lexer.proofs.Lexing.{Read}
 use Rattle.layout_lexer.proofs.lexer.scan.Given as goal
 

@@ -1,5 +1,5 @@
 use Rattle.std.proofs.Common.{map}
-use Rattle.layout_lexer.specs.Lexemes.{lexeme}
+use Rattle.elm_base.specs.Lexemes.{lexeme}
 use Rattle.layout_lexer.proofs.Contract.{all_listed, in_slices, first_refused, exactly, exact_fault}
 use Rattle.layout_lexer.proofs.lexer.tokens.Goals as goal
 

@@ -1,6 +1,6 @@
 use Rattle.std.proofs.Common.{◌≡◌, ap, arith}
 use Rattle.pattern_parser.specs.PatternReader.{cons_at}
-use Rattle.pattern_parser.proofs.Depth.{deeper}
+use Rattle.grammar.proofs.Depth.{deeper}
 use Rattle.pattern_parser.proofs.patterns.+cons_at.Goals as goal
 
 pub returns-then-depth-eq0 : goal.returns-then-depth-eq0

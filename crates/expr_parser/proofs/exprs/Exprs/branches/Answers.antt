@@ -1,40 +1,13 @@
-use Rattle.std.proofs.Common.{true, false, refl, sym, rules, arith}
-use Rattle.std.proofs.lemmas.Grind.{common_steps}
-use Rattle.std.proofs.lemmas.Result.{err_from_is_err_and}
-use Rattle.pattern_parser.specs.Reader.{items, block}
-use Rattle.pattern_parser.proofs.Turns.{loop_turn, loop_err, loop_ends}
-use Rattle.expr_parser.specs.ExprReader as m
-use Rattle.expr_parser.proofs.BlockTurns.{block_first}
-use Rattle.expr_parser.proofs.FormTakes.{branch_takes}
+use Rattle.std.proofs.Common.{rules}
+use Rattle.expr_grammar.specs.ExprReader as m
+use Rattle.expr_grammar.proofs.Takes.{branch_takes}
 use Rattle.expr_parser.proofs.exprs.Exprs.branches.Goals as goal
 
-pub turns-init : goal.turns-init
-turns-init g c =
-    rw (c.in_ok-push.ensures.ok, c.new-found.ensures)
-    (block_first _ (m.branch c.args.self.now.depth (m.tree_at false c.args.self.now.depth) (m.tree_at true c.args.self.now.depth)) c.in_ok-column.field-0 c.in_ok-branch_item.field-0 _ _ c.in_ok-column.ensures c.in_ok-branch_item.ensures)
-
-pub returns-in_err-branch_item : goal.returns-in_err-branch_item
-unfolding block
-returns-in_err-branch_item g c = first_of (search rules, grind (arith, common_steps))
-
-pub returns-in_err-column : goal.returns-in_err-column
-unfolding block
-returns-in_err-column g c = first_of (search rules, grind (arith, common_steps))
-
-pub returns-in_err-branch_item-2 : goal.returns-in_err-branch_item-2
-unfolding items
-returns-in_err-branch_item-2 g c =
-    let p = err_from_is_err_and c.from_residual-in_err-branch_item-2.result c.from_residual-in_err-branch_item-2.ensures.1 in
-    rw (p.1, p.2) (loop_err _ _ refl (branch_takes c.args.self.now.depth _) c.turns.found _ c.turns.tokens (sym c.turns-test.ensures) c.in_err-branch_item-2.ensures c.turns.invariant)
-
-pub turns-smaller : goal.turns-smaller
-turns-smaller g c = branch_takes c.args.self.now.depth _ _ _ _ c.in_ok-branch_item-2.ensures
-
-pub turns-preserved : goal.turns-preserved
-unfolding items
-turns-preserved g c =
-    rw c.in_ok-push-2.ensures.ok (loop_turn _ _ refl (branch_takes c.args.self.now.depth _) c.turns.found _ c.turns.tokens _ (sym c.turns-test.ensures) c.in_ok-branch_item-2.ensures c.turns.invariant)
+pub block-requires : goal.block-requires
+block-requires g c =
+    (m.branch (m.below c.args.self.now.depth), record { callable = λ old. search rules; reads = λ old new r post. search rules; takes = branch_takes c.args.self.now.depth })
 
 pub returns : goal.returns
-unfolding items
-returns g c = loop_ends _ _ c.turns.found c.turns.tokens (sym c.turns-test.ensures) c.turns.invariant
+returns g c =
+    c.block.ensures (m.branch (m.below c.args.self.now.depth))
+    (record { callable = λ old. search rules; reads = λ old new r post. search rules; takes = branch_takes c.args.self.now.depth })

@@ -1,7 +1,13 @@
-use Rattle.std.proofs.Common.{true, false}
-use Rattle.pattern_parser.proofs.Turns.{with_none}
-use Rattle.expr_parser.specs.ExprReader as m
+use Rattle.std.proofs.Common.{rules}
+use Rattle.expr_grammar.specs.ExprReader as m
+use Rattle.expr_grammar.proofs.Takes.{parameter_takes}
 use Rattle.expr_parser.proofs.exprs.Exprs.parameters.Goals as goal
 
+pub many-requires : goal.many-requires
+many-requires g c =
+    (m.parameter (m.below c.args.self.now.depth), record { callable = λ old. search rules; reads = λ old new r post. search rules; takes = parameter_takes c.args.self.now.depth })
+
 pub returns : goal.returns
-returns g c = rw (with_none (m.parameters c.args.self.now.depth (m.tree_at false c.args.self.now.depth) (m.tree_at true c.args.self.now.depth) c.args.tokens.now)) (rw c.new.ensures at c.parameters_behind.ensures)
+returns g c =
+    c.many.ensures (m.parameter (m.below c.args.self.now.depth))
+    (record { callable = λ old. search rules; reads = λ old new r post. search rules; takes = parameter_takes c.args.self.now.depth })

@@ -1,0 +1,4 @@
+pub mod GuardLaws
+pub mod ExprReadings
+pub mod ExprLaws
+pub mod Takes

@@ -1,0 +1,15 @@
+pub mod Laws
+pub mod Turns
+pub mod Depth
+pub mod Shallow
+pub mod SpellingLaws
+pub mod Columns
+pub mod Links
+pub mod Ends
+pub mod Choice
+pub mod Follows
+pub mod Items
+pub mod Cut
+pub mod Wholes
+pub mod ListLaws
+pub mod ListTurns

@@ -1,0 +1,11 @@
+use Rattle.std.proofs.Common.{rules, arith}
+use Rattle.std.proofs.lemmas.Grind.{common_steps}
+use Rattle.grammar.specs.Lists.{some}
+use Rattle.grammar.proofs.lists.some.Goals as goal
+
+pub returns : goal.returns
+unfolding some
+returns g c = λ p r.
+    let e = c.many_more.ensures p r in
+    let f = r.reads _ _ _ c.in_ok-next.ensures in
+    first_of (search rules, grind (arith, common_steps))

@@ -1,0 +1,76 @@
+use crate::form::{around, check_nesting};
+use crate::reading::{Reading, written};
+use expr_parser::one_type;
+use std::test::Fail;
+
+/// Types and their trees, each with its column behind it.
+const ROWS: [(&str, &str); 38] = [
+    ("a", "a@1"),
+    ("Int", "<Int>@1"),
+    ("A.B", "<A.B>@1"),
+    ("a.b", "NoTree"),
+    ("A.b", "NoTree"),
+    ("", "NoTree"),
+    ("a b", "NoTree"),
+    ("Maybe a Int", "<Maybe a@7 <Int>@9>@1"),
+    ("Maybe List a", "<Maybe <List>@7 a@12>@1"),
+    ("Maybe ( List a )", "<Maybe (<List a@14>@9)@7>@1"),
+    ("a -> b -> c", "<a@1 -> <b@6 -> c@11>@6>@1"),
+    ("( a -> b ) -> c", "<(<a@3 -> b@8>@3)@1 -> c@15>@1"),
+    ("Maybe a -> b", "<<Maybe a@7>@1 -> b@12>@1"),
+    ("a ->", "NoTree"),
+    ("-> a", "NoTree"),
+    ("a :: b", "NoTree"),
+    ("( )", "()@1"),
+    ("( a )", "(a@3)@1"),
+    ("( a", "NoTree"),
+    ("a )", "NoTree"),
+    ("( a , b )", "(, a@3 b@7)@1"),
+    ("( a , )", "NoTree"),
+    ("( , )", "NoTree"),
+    (
+        "( a , b , c , d , e , f , g , h , i )",
+        "(, a@3 b@7 c@11 d@15 e@19 f@23 g@27 h@31 i@35)@1",
+    ),
+    ("( a , b , c , d , e , f , g , h , i , j )", "NoTree"),
+    ("{ }", "{}@1"),
+    ("{ x : a }", "{ x@3:a@7}@1"),
+    (
+        "{ x : a , y : Int -> b }",
+        "{ x@3:a@7 y@11:<<Int>@15 -> b@22>@15}@1",
+    ),
+    ("{ r | x : a }", "{ r@3 | x@7:a@11}@1"),
+    ("{ r | }", "NoTree"),
+    ("{ r }", "NoTree"),
+    ("{ x : a , }", "NoTree"),
+    ("{ X : a }", "NoTree"),
+    ("{ x = a }", "NoTree"),
+    ("{ x : a | y : b }", "NoTree"),
+    ("[ a ]", "NoTree"),
+    ("as", "NoTree"),
+    ("{ x : a , x : b }", "{ x@3:a@7 x@11:b@15}@1"),
+];
+
+#[test]
+fn types_have_their_trees(rt: HostRuntime) -> Result<(), Fail> {
+    for (text, wanted) in &ROWS {
+        let found = written(rt.alloc(), Reading::Type, text)?;
+        assert_eq!(rt; found.as_str(), *wanted, "{text}");
+    }
+    one_type();
+    Ok(())
+}
+
+#[test]
+fn types_nest_at_most_100_deep(rt: HostRuntime) -> Result<(), Fail> {
+    let forms = [
+        around("( ", " )", 100),
+        around("a -> ", "", 100),
+        around("( a , ", " )", 100),
+        around("{ x : ", " }", 100),
+        around("{ r | x : ", " }", 100),
+        around("List ( ", " )", 50),
+        around("List ( Int -> ", " )", 33),
+    ];
+    check_nesting(&rt, rt.alloc(), Reading::Type, &forms)
+}

@@ -1,0 +1,2 @@
+mod OneTree
+mod Worked
