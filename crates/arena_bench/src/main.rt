@@ -1,5 +1,5 @@
 //! Reads two numbers from standard input, compares two lists of as many elements as the first, then pushes
-//! as many nodes as the second and cuts them off again. `bench/arena.sh` times it.
+//! as many nodes as the second and cuts them off again. `bench/bench.py arena` times it.
 #![tactic(auto)]
 
 ghost use Rattle.std.specs.Prelude.{◌<◌, ◌≤◌, length, IfOk};

@@ -4,3 +4,9 @@ pub mod Fuel
 pub mod Again
 pub mod More
 pub mod Forms
+pub mod Substituted
+pub mod Unnamed
+pub mod MoreTops
+pub mod Within
+pub mod Captured
+pub mod Spent

@@ -7,7 +7,7 @@ use Rattle.std.specs.Ordering.{nat_cmp, int_cmp, ordering_reverse}
 use Rattle.std.specs.declared.cmp.Ordering.{Ordering}
 use Rattle.std.specs.declared.cmp.Ordering.TheVariants.{Less, Equal, Greater}
 use Rattle.elm_meaning.specs.declared.compared.Comparison.TheVariants.{Equality}
-use Rattle.elm_meaning.specs.Values.{Value, Values, Fields, Number, Character, Text, UnitValue, Nil, Cons, Tuple, Made, Record, Applicable, Element, Signal, NoValues, AndValue, NoFields, AndField}
+use Rattle.elm_meaning.specs.Values.{Value, Values, Fields, Int, Char, Text, Unit, Nil, Cons, Tuple, Made, Record, Applicable, Cells, Signal, NoValues, AndValue, NoFields, AndField}
 use Rattle.elm_meaning.specs.Records.{labels}
 use Rattle.elm_meaning.specs.PairsVisited.{found, one, after_one, and_then, places, cells, same_number, parts_where, visited, all_visited, fields_visited}
 
@@ -51,9 +51,9 @@ cells_symmetric (r ∷ rs) (s ∷ ss) = two and_then _ _ _ _ (places_symmetric (
 
 mutual
   pub visited_symmetric : (v w : Value) → visited Equality v w ≡ visited Equality w v
-  visited_symmetric (Number a) (Number b) =
+  visited_symmetric (Int a) (Int b) =
       ap one (ap (found Equality) (int_cmp_total.antisymm a b) ∙ found_reverse (int_cmp b a))
-  visited_symmetric (Character a) (Character b) = ap one (found_numbers a b)
+  visited_symmetric (Char a) (Char b) = ap one (found_numbers a b)
   visited_symmetric (Text a) (Text b) = ap after_one (places_symmetric (chars a) (chars b))
   visited_symmetric Nil Nil = refl
   visited_symmetric Nil (Cons w ws) = refl
@@ -63,14 +63,14 @@ mutual
   visited_symmetric (Tuple vs) (Tuple ws) =
       two parts_where _ _ _ _ (number_symmetric vs ws) (all_symmetric vs ws)
   visited_symmetric (Applicable f) (Applicable g) = refl
-  visited_symmetric UnitValue UnitValue = refl
+  visited_symmetric Unit Unit = refl
   visited_symmetric (Made k vs) (Made l ws) =
       two parts_where _ _ _ _
       (two (λ a b. a && b) _ _ _ _ (bytes_symmetric k l) (number_symmetric vs ws)) (all_symmetric vs ws)
   visited_symmetric (Record fs) (Record gs) =
       two parts_where _ _ _ _
       (tests_symmetric bytes_eq bytes_symmetric (labels fs) (labels gs)) (fields_symmetric fs gs)
-  visited_symmetric (Element w h rows) (Element x i others) =
+  visited_symmetric (Cells w h rows) (Cells x i others) =
       two parts_where _ _ _ _
       (two (λ a b. a && b) _ _ _ _ (nat_eq_equiv.symm w x) (nat_eq_equiv.symm h i)) (cells_symmetric rows others)
   visited_symmetric (Signal m) (Signal n) = ap one (found_numbers m n)

@@ -3,16 +3,16 @@ use Rattle.std.specs.Prelude.{ℕ, Option, Some, None, List, [], ◌∷◌}
 use Rattle.elm_meaning.specs.Values.{Value, Signal}
 
 pub data Equation : Type 0 where
-  InputNode : (place : ℕ) → Equation
-  ConstantNode : (value : Value) → Equation
-  MapNode : (function : Value) (inputs : List ℕ) → Equation
-  FoldNode : (function start : Value) (input : ℕ) → Equation
-  MergeNode : (left right : ℕ) → Equation
-  FilterNode : (test first : Value) (input : ℕ) → Equation
-  FilterMapNode : (function first : Value) (input : ℕ) → Equation
-  DropRepeatsNode : (input : ℕ) → Equation
-  SampleOnNode : (ticks input : ℕ) → Equation
-  AsyncNode : (input : ℕ) → Equation
+  Input : (place : ℕ) → Equation
+  Constant : (value : Value) → Equation
+  Map : (function : Value) (inputs : List ℕ) → Equation
+  Foldp : (function start : Value) (input : ℕ) → Equation
+  Merge : (left right : ℕ) → Equation
+  Filter : (test first : Value) (input : ℕ) → Equation
+  FilterMap : (function first : Value) (input : ℕ) → Equation
+  DropRepeats : (input : ℕ) → Equation
+  SampleOn : (ticks input : ℕ) → Equation
+  Async : (input : ℕ) → Equation
 
 abbrev pub with_node : ℕ → Option (List ℕ) → Option (List ℕ)
 with_node n None = None
@@ -26,12 +26,12 @@ nodes_of _ = None
 
 abbrev pub map_node : Value → Option (List ℕ) → Option Equation
 map_node f None = None
-map_node f (Some ns) = Some (MapNode f ns)
+map_node f (Some ns) = Some (Equation.Map f ns)
 
 -- the equation that each native of signals makes of its arguments
 
 abbrev pub constant : List Value → Option Equation
-constant (v ∷ []) = Some (ConstantNode v)
+constant (v ∷ []) = Some (Equation.Constant v)
 constant _ = None
 
 -- of one to five signals
@@ -40,29 +40,29 @@ map (f ∷ vs) = map_node f (nodes_of vs)
 map [] = None
 
 abbrev pub foldp : List Value → Option Equation
-foldp (f ∷ v ∷ Signal n ∷ []) = Some (FoldNode f v n)
+foldp (f ∷ v ∷ Signal n ∷ []) = Some (Equation.Foldp f v n)
 foldp _ = None
 
 abbrev pub merge : List Value → Option Equation
-merge (Signal m ∷ Signal n ∷ []) = Some (MergeNode m n)
+merge (Signal m ∷ Signal n ∷ []) = Some (Equation.Merge m n)
 merge _ = None
 
 abbrev pub filter : List Value → Option Equation
-filter (p ∷ v ∷ Signal n ∷ []) = Some (FilterNode p v n)
+filter (p ∷ v ∷ Signal n ∷ []) = Some (Equation.Filter p v n)
 filter _ = None
 
 abbrev pub filter_map : List Value → Option Equation
-filter_map (f ∷ v ∷ Signal n ∷ []) = Some (FilterMapNode f v n)
+filter_map (f ∷ v ∷ Signal n ∷ []) = Some (Equation.FilterMap f v n)
 filter_map _ = None
 
 abbrev pub drop_repeats : List Value → Option Equation
-drop_repeats (Signal n ∷ []) = Some (DropRepeatsNode n)
+drop_repeats (Signal n ∷ []) = Some (Equation.DropRepeats n)
 drop_repeats _ = None
 
 abbrev pub sample_on : List Value → Option Equation
-sample_on (Signal m ∷ Signal n ∷ []) = Some (SampleOnNode m n)
+sample_on (Signal m ∷ Signal n ∷ []) = Some (Equation.SampleOn m n)
 sample_on _ = None
 
 abbrev pub async : List Value → Option Equation
-async (Signal n ∷ []) = Some (AsyncNode n)
+async (Signal n ∷ []) = Some (Equation.Async n)
 async _ = None

@@ -3,7 +3,7 @@ use Rattle.std.specs.Prelude.{ℕ, ℤ, pos, negsuc, ◌+◌, ◌-◌, ◌*◌, 
 use Rattle.std.specs.List.{range_with_len}
 use Rattle.std.specs.Str.{chars, encode_utf8_all, bytes_eq}
 use Rattle.elm_base.specs.declared.term.RunFault.TheVariants.{ElementTooLarge}
-use Rattle.elm_meaning.specs.Values.{Value, Number, Text, Nil, Cons, Made, Element, NoValues}
+use Rattle.elm_meaning.specs.Values.{Value, Int, Text, Nil, Cons, Made, Cells, NoValues}
 use Rattle.elm_meaning.specs.Answers.{Answer, Gives, Faults, Reply, free, after, no_reply}
 
 -- the rows of an Element as the codes of their chars
@@ -16,7 +16,7 @@ abbrev pub grid_of : ℕ → ℕ → List (List ℕ) → Grid
 grid_of width height rows = record { width = width; height = height; rows = map chars rows }
 
 abbrev pub element_of : Grid → Value
-element_of g = Element g.width g.height (map encode_utf8_all g.rows)
+element_of g = Cells g.width g.height (map encode_utf8_all g.rows)
 
 -- at most 1,000 cells wide and high
 abbrev pub laid_out : Grid → Answer
@@ -133,7 +133,7 @@ text (Text bytes ∷ []) =
 text _ = no_reply
 
 abbrev pub spacer : List Value → Reply
-spacer (Number w ∷ Number h ∷ []) =
+spacer (Int w ∷ Int h ∷ []) =
     let g = blank (size w) (size h) in after (cell_count g) (laid_out g)
 spacer _ = no_reply
 
@@ -144,7 +144,7 @@ with_grid g (Some gs) = Some (g ∷ gs)
 -- the Elements of a list
 abbrev pub grids_of : Value → Option (List Grid)
 grids_of Nil = Some []
-grids_of (Cons (Element w h rows) vs) = with_grid (grid_of w h rows) (grids_of vs)
+grids_of (Cons (Cells w h rows) vs) = with_grid (grid_of w h rows) (grids_of vs)
 grids_of _ = None
 
 abbrev pub flowed : List ℕ → List Grid → Option Grid
@@ -171,14 +171,14 @@ framed_at width height (Some left) (Some top) g = laid_out_after 0 (Some (framed
 framed_at width height _ _ g = no_reply
 
 abbrev pub container : List Value → Reply
-container (Number w ∷ Number h ∷ Made position NoValues ∷ Element x y rows ∷ []) =
+container (Int w ∷ Int h ∷ Made position NoValues ∷ Cells x y rows ∷ []) =
     framed_at (size w) (size h) (edge position (size w) x) (edge position (size h) y) (grid_of x y rows)
 container _ = no_reply
 
 abbrev pub width_of : List Value → Reply
-width_of (Element w h rows ∷ []) = free (Gives (Number (pos w)))
+width_of (Cells w h rows ∷ []) = free (Gives (Int (pos w)))
 width_of _ = no_reply
 
 abbrev pub height_of : List Value → Reply
-height_of (Element w h rows ∷ []) = free (Gives (Number (pos h)))
+height_of (Cells w h rows ∷ []) = free (Gives (Int (pos h)))
 height_of _ = no_reply

@@ -14,5 +14,12 @@ pub mod Matching
 pub mod Substitution
 pub mod Progress
 pub mod Evaluation
+pub mod Calls
+pub mod ClosedRules
+pub mod FreeNames
+pub mod WithinFuel
+pub mod Spelling
 pub mod Examples
 pub mod Terms
+pub mod Captures
+pub mod Lowered

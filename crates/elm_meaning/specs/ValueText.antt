@@ -1,21 +1,9 @@
 -- The text of a value, as `toString` gives it.
-use Rattle.std.specs.Prelude.{ℕ, Bool, true, false, if◌then◌else◌, ◌==◌, List, [], ◌∷◌, ◌++◌, codes, encode_utf8}
-use Rattle.std.specs.List.{flat_map}
+use Rattle.std.specs.Prelude.{ℕ, Bool, true, false, if◌then◌else◌, List, [], ◌∷◌, ◌++◌, codes, encode_utf8}
 use Rattle.std.specs.Str.{bytes_eq}
 use Rattle.std.specs.Fmt.{signed_decimal}
-use Rattle.elm_meaning.specs.Values.{Value, Values, Fields, Number, Character, Text, UnitValue, Nil, Cons, Tuple, Made, Record, Applicable, Element, Signal, NoValues, AndValue, NoFields, AndField}
-
--- a byte, with a backslash before the quote and backslashes, and newlines, tabs and carriage returns as letters
-abbrev pub escaped : ℕ → ℕ → List ℕ
-escaped quote b =
-    if b == quote then 92 ∷ quote ∷ []
-    else (if b == 92 then codes "\\\\"
-    else (if b == 10 then codes "\\n"
-    else (if b == 9 then codes "\\t"
-    else (if b == 13 then codes "\\r" else b ∷ []))))
-
-abbrev pub quoted : ℕ → List ℕ → List ℕ
-quoted quote bytes = quote ∷ flat_map (escaped quote) bytes ++ quote ∷ []
+use Rattle.elm_base.specs.Quoted.{quoted}
+use Rattle.elm_meaning.specs.Values.{Value, Values, Fields, Int, Char, Text, Unit, Nil, Cons, Tuple, Made, Record, Applicable, Cells, Signal, NoValues, AndValue, NoFields, AndField}
 
 -- a constructor with arguments stands in brackets where it is an argument
 abbrev pub takes_brackets : Value → Bool
@@ -28,17 +16,17 @@ in_brackets false text = text
 
 abbrev mutual
   pub text_of : Value → List ℕ
-  text_of (Number z) = signed_decimal z
-  text_of (Character code) = quoted 39 (encode_utf8 code)
+  text_of (Int z) = signed_decimal z
+  text_of (Char code) = quoted 39 (encode_utf8 code)
   text_of (Text bytes) = quoted 34 bytes
-  text_of UnitValue = codes "()"
+  text_of Unit = codes "()"
   text_of Nil = codes "[]"
   text_of (Cons v vs) = 91 ∷ text_of v ++ more_elements vs
   text_of (Tuple vs) = 40 ∷ parts_text vs ++ 41 ∷ []
   text_of (Made k vs) = k ++ arguments_text vs
   text_of (Record fs) = record_text fs
   text_of (Applicable f) = codes "<function>"
-  text_of (Element w h rows) = codes "<element>"
+  text_of (Cells w h rows) = codes "<element>"
   text_of (Signal n) = codes "<signal>"
 
   pub more_elements : Value → List ℕ

@@ -5,3 +5,4 @@ pub mod Names
 pub mod Ordered
 pub mod Rows
 pub mod Sorts
+pub mod Spelling

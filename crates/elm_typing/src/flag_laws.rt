@@ -13,7 +13,8 @@ pub fn comparable_types()
     ensures char { IsComparable (Named char_name NoGrounds) }
     ensures string { IsComparable (Named string_name NoGrounds) }
     ensures list { (t : Ground) → IsComparable (list_of t) ↔ IsComparable t }
-    ensures pair { (t u : Ground) → IsComparable (Tuple (AndGround t (AndGround u NoGrounds))) ↔ (IsComparable t × IsComparable u) }
+    ensures pair { (t u : Ground) → IsComparable (Tuple (AndGround t (AndGround u NoGrounds))) ↔
+        (IsComparable t × IsComparable u) }
     ensures unit { IsComparable (Tuple NoGrounds) → ⊥ }
     ensures union { IsComparable (Named (codes "Basics.Bool") NoGrounds) → ⊥ }
 {}

@@ -12,23 +12,33 @@ ghost use Rattle.elm_typing.specs.Sorts.{Sort, Simple, Signal, IsWellSorted, sor
 /// everything else is simple.
 pub fn sorts_of_types()
     ensures signal { (chosen : ℕ → Sort) (t : Ground) → sort_of chosen (signal_of t) ≡ Signal }
-    ensures function { (chosen : ℕ → Sort) (a b c : Ground) → sort_of chosen (Function a (Function b c)) ≡ sort_of chosen c }
-    ensures opaque { (chosen : ℕ → Sort) (number : ℕ) → sort_of chosen (Opaque number Plain) ≡ chosen number }
-    ensures flagged { (chosen : ℕ → Sort) (number : ℕ) → sort_of chosen (Opaque number Comparable) ≡ Simple }
+    ensures function { (chosen : ℕ → Sort) (a b c : Ground) → sort_of chosen (Function a (Function b c))
+        ≡ sort_of chosen c }
+    ensures opaque { (chosen : ℕ → Sort) (number : ℕ) → sort_of chosen (Opaque number Plain)
+        ≡ chosen number }
+    ensures flagged { (chosen : ℕ → Sort) (number : ℕ) → sort_of chosen (Opaque number Comparable)
+        ≡ Simple }
     ensures record { (chosen : ℕ → Sort) (row : Row) → sort_of chosen (Record row) ≡ Simple }
     ensures list { (chosen : ℕ → Sort) (t : Ground) → sort_of chosen (list_of t) ≡ Simple }
 {}
 
 /// What has a flag is simple.
 pub fn flagged_types_are_simple()
-    ensures { (chosen : ℕ → Sort) (flag : Flag) (t : Ground) → flag ≢ Plain → HasFlag flag t → sort_of chosen t ≡ Simple }
+    ensures { (chosen : ℕ → Sort) (flag : Flag) (t : Ground) → flag ≢ Plain → HasFlag flag t → sort_of
+        chosen t
+        ≡ Simple }
 {}
 
 /// A function may lift values to signals, as `Signal.map` does, but not hide a signal; no signal stands in a list.
 pub fn well_sorted_types()
-    ensures map { (chosen : ℕ → Sort) → chosen 0 ≡ Simple → chosen 1 ≡ Simple → IsWellSorted chosen (Function (Function (Opaque 0 Plain) (Opaque 1 Plain)) (Function (signal_of (Opaque 0 Plain)) (signal_of (Opaque 1 Plain)))) }
-    ensures constant { (chosen : ℕ → Sort) → IsWellSorted chosen (Function (Named int_name NoGrounds) (signal_of (Named int_name NoGrounds))) }
-    ensures hidden { (chosen : ℕ → Sort) → IsWellSorted chosen (Function (signal_of (Named int_name NoGrounds)) (Named int_name NoGrounds)) → ⊥ }
+    ensures map { (chosen : ℕ → Sort) → chosen 0 ≡ Simple → chosen 1
+        ≡ Simple → IsWellSorted chosen
+        (Function (Function (Opaque 0 Plain) (Opaque 1 Plain))
+        (Function (signal_of (Opaque 0 Plain)) (signal_of (Opaque 1 Plain)))) }
+    ensures constant { (chosen : ℕ → Sort) → IsWellSorted chosen
+        (Function (Named int_name NoGrounds) (signal_of (Named int_name NoGrounds))) }
+    ensures hidden { (chosen : ℕ → Sort) → IsWellSorted chosen
+        (Function (signal_of (Named int_name NoGrounds)) (Named int_name NoGrounds)) → ⊥ }
     ensures list { (chosen : ℕ → Sort) (t : Ground) → IsWellSorted chosen (list_of (signal_of t)) → ⊥ }
     ensures nested { (chosen : ℕ → Sort) (t : Ground) → IsWellSorted chosen (signal_of (signal_of t)) → ⊥ }
 {}

@@ -29,14 +29,16 @@ pub fn push_fault(fault: &ProjectFault, out: &mut Vec<u8>) -> Result<(), NoMemor
 }
 
 fn push_place(module: &Name, line: u32, out: &mut Vec<u8>) -> Result<(), NoMemory>
-    ensures { OnOk result (out.new.items ≡ out.old.items ++ flat_map spaced («module».now ∷ decimal line ∷ [])) }
+    ensures { OnOk result (out.new.items ≡ out.old.items
+        ++ flat_map spaced («module».now ∷ decimal line ∷ [])) }
 {
     push_word(module.bytes(), out)?;
     push_number(line, out)
 }
 
 fn push_kind(kind: FaultKind, name: &Name, out: &mut Vec<u8>) -> Result<(), NoMemory>
-    ensures { OnOk result (out.new.items ≡ out.old.items ++ flat_map spaced (spec.kind_text kind ∷ spec.name_or_dash name.now ∷ [])) }
+    ensures { OnOk result (out.new.items ≡ out.old.items
+        ++ flat_map spaced (spec.kind_text kind ∷ spec.name_or_dash name.now ∷ [])) }
 {
     push_word(kind_text(kind), out)?;
     push_word(name_or_dash(name), out)

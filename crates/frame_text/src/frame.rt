@@ -35,7 +35,8 @@ fn push_frame(parts: &Parts, out: &mut Vec<u8>) -> Result<(), NoMemory>
 }
 
 fn push_place(cursor: u32, events: u32, out: &mut Vec<u8>) -> Result<(), NoMemory>
-    ensures { OnOk result (out.new.items ≡ out.old.items ++ line (words (codes "at" ∷ decimal cursor ∷ codes "of" ∷ decimal events ∷ []))) }
+    ensures { OnOk result (out.new.items ≡ out.old.items
+        ++ line (words (codes "at" ∷ decimal cursor ∷ codes "of" ∷ decimal events ∷ []))) }
 {
     push_text(b"at", out)?;
     push_number(cursor, out)?;

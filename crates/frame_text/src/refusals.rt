@@ -68,7 +68,8 @@ fn push_about(refusal: &[u8], name: &Name, out: &mut Vec<u8>) -> Result<(), NoMe
 }
 
 fn push_count(refusal: &[u8], count: u32, out: &mut Vec<u8>) -> Result<(), NoMemory>
-    ensures { OnOk result (out.new.items ≡ out.old.items ++ refused (refusal.now ∷ decimal count ∷ [])) }
+    ensures { OnOk result (out.new.items ≡ out.old.items
+        ++ refused (refusal.now ∷ decimal count ∷ [])) }
 {
     push_refused(refusal, out)?;
     push_number(count, out)?;
@@ -77,7 +78,8 @@ fn push_count(refusal: &[u8], count: u32, out: &mut Vec<u8>) -> Result<(), NoMem
 
 /// Appends a refusal about a cursor and the number of events.
 fn push_places(refusal: &[u8], cursor: u32, events: u32, out: &mut Vec<u8>) -> Result<(), NoMemory>
-    ensures { OnOk result (out.new.items ≡ out.old.items ++ refused (refusal.now ∷ decimal cursor ∷ decimal events ∷ [])) }
+    ensures { OnOk result (out.new.items ≡ out.old.items
+        ++ refused (refusal.now ∷ decimal cursor ∷ decimal events ∷ [])) }
 {
     push_refused(refusal, out)?;
     push_number(cursor, out)?;
@@ -87,7 +89,8 @@ fn push_places(refusal: &[u8], cursor: u32, events: u32, out: &mut Vec<u8>) -> R
 
 /// Appends a refusal about an event and the name of its input.
 fn push_event(refusal: &[u8], event: u32, name: &Name, out: &mut Vec<u8>) -> Result<(), NoMemory>
-    ensures { OnOk result (out.new.items ≡ out.old.items ++ refused (refusal.now ∷ decimal event ∷ name.now ∷ [])) }
+    ensures { OnOk result (out.new.items ≡ out.old.items
+        ++ refused (refusal.now ∷ decimal event ∷ name.now ∷ [])) }
 {
     push_refused(refusal, out)?;
     push_number(event, out)?;
@@ -96,7 +99,8 @@ fn push_event(refusal: &[u8], event: u32, name: &Name, out: &mut Vec<u8>) -> Res
 }
 
 fn push_bad_value(name: &Name, port: &PortType, out: &mut Vec<u8>) -> Result<(), NoMemory>
-    ensures { OnOk result (out.new.items ≡ out.old.items ++ refused (codes "BadValue" ∷ name.now ∷ type_text port.now ∷ [])) }
+    ensures { OnOk result (out.new.items ≡ out.old.items
+        ++ refused (codes "BadValue" ∷ name.now ∷ type_text port.now ∷ [])) }
 {
     push_refused(b"BadValue", out)?;
     push_word(name.bytes(), out)?;

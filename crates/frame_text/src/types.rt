@@ -69,7 +69,8 @@ fn push_argument(port: &PortType, out: &mut Vec<u8>) -> Result<(), NoMemory>
 /// Appends types with commas between them.
 #[cycle(types)]
 fn push_parts(parts: &[PortType], out: &mut Vec<u8>) -> Result<(), NoMemory>
-    ensures { OnOk result (out.new.items ≡ out.old.items ++ spec.parts (map spec.described parts.now)) }
+    ensures { OnOk result (out.new.items ≡ out.old.items
+        ++ spec.parts (map spec.described parts.now)) }
 {
     let [first, others @ ..] = parts else {
         return Ok(());
@@ -85,7 +86,8 @@ fn push_parts(parts: &[PortType], out: &mut Vec<u8>) -> Result<(), NoMemory>
 /// Appends the type of a record.
 #[cycle(types)]
 fn push_fields(fields: &[(Name, PortType)], out: &mut Vec<u8>) -> Result<(), NoMemory>
-    ensures { OnOk result (out.new.items ≡ out.old.items ++ spec.fields (map spec.described_field fields.now)) }
+    ensures { OnOk result (out.new.items ≡ out.old.items
+        ++ spec.fields (map spec.described_field fields.now)) }
 {
     let [(label, port), others @ ..] = fields else {
         return push_text(b"{}", out);
@@ -101,7 +103,8 @@ fn push_fields(fields: &[(Name, PortType)], out: &mut Vec<u8>) -> Result<(), NoM
 
 #[cycle(types)]
 fn push_field(label: &Name, port: &PortType, out: &mut Vec<u8>) -> Result<(), NoMemory>
-    ensures { OnOk result (out.new.items ≡ out.old.items ++ spec.field (label.now, spec.described port.now)) }
+    ensures { OnOk result (out.new.items ≡ out.old.items
+        ++ spec.field (label.now, spec.described port.now)) }
 {
     push_text(label.bytes(), out)?;
     push_text(b" : ", out)?;

@@ -1,5 +1,5 @@
 //! Reads a text from standard input, lexes it a fixed number of times, and prints how many tokens it has,
-//! or the line and kind of its first fault. `bench/lexer.sh` times it.
+//! or the line and kind of its first fault. `bench/bench.py lexer` times it.
 #![tactic(auto)]
 
 use elm_base::{Halt, Token};

@@ -1,5 +1,5 @@
 //! Reads a text from standard input, parses it as one expression a fixed number of times, and prints how many tokens it has
-//! and whether it has a tree. `bench/parser.sh` times it, and measures how much stack it takes.
+//! and whether it has a tree. `bench/bench.py parser` times it, and `stack` measures how much stack it takes.
 #![tactic(auto)]
 
 use elm_base::{Expr, Halt, Token};

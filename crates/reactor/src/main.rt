@@ -2,59 +2,8 @@
 //! which it starts. It writes nothing to standard error, and ends with the code of the run's status.
 #![tactic(auto)]
 
-ghost use Rattle.std.specs.Prelude.{◌≡◌, ◌<◌};
+use reactor_process::{Ended, run_process};
 
-use elm_base::Steps;
-use reactor_engine::{Status, Words, reactor_run};
-use reactor_outside::{FolderShelf, ReaderSource, WriterSink};
-use std::alloc::Global;
-use std::env;
-use std::io::ErrorKind;
-use std::marker::Brand;
-use std::process::ExitCode;
-use std::sync::ledger::{Blank, Ledger};
-
-fn main(rt: HostRuntime) -> ExitCode {
-    let status = match words_of(rt.alloc(), &rt) {
-        Ok(words) => run::<Brand>(&rt, &words, Blank::new(1)),
-        Err(status) => status,
-    };
-    ExitCode::from(status.code())
-}
-
-/// The words behind the program's own name. Arguments that can't be had are no words, which the run refuses.
-fn words_of(alloc: Global, rt: &HostRuntime) -> Result<Words, Status> {
-    let mut words = Words::new(alloc)?;
-    match env::args(rt) {
-        Ok(arguments) => {
-            for argument in arguments.skip(1) {
-                words.add(argument.as_str())?;
-            }
-            Ok(words)
-        }
-        Err(error) => match error.kind() {
-            ErrorKind::OutOfMemory => Err(Status::NoMemory),
-            _ => Ok(words),
-        },
-    }
-}
-
-/// Runs with the adapters over the system.
-fn run<L: Ledger>(rt: &HostRuntime, words: &Words, blank: Blank) -> Status
-    requires name { blank.name ≡ L.name }
-    requires parts { blank.parts ≡ L.parts }
-    requires some_parts { 0 < blank.parts }
-{
-    let mut steps = Steps::<L>::from_blank(blank);
-    let mut shelf = FolderShelf::new(rt);
-    let mut script = ReaderSource::new(rt.stdin());
-    let mut screen = WriterSink::new(rt.stdout());
-    reactor_run(
-        rt.alloc(),
-        words,
-        &mut shelf,
-        &mut script,
-        &mut screen,
-        &mut steps,
-    )
+fn main(rt: HostRuntime) -> Ended {
+    run_process(&rt)
 }

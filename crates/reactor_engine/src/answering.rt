@@ -21,7 +21,8 @@ fn write_answer(
     answer: &Answer,
     out: &mut Vec<u8>,
 ) -> Result<(), NoMemory>
-    ensures { OnOk result ((files : Files) → out.new.items ≡ out.old.items ++ answer_text (state_of session.now files) answer.now) }
+    ensures { OnOk result ((files : Files) → out.new.items ≡ out.old.items
+        ++ answer_text (state_of session.now files) answer.now) }
 {
     match answer {
         Answer::Shown => {
@@ -56,7 +57,8 @@ fn answer_lines(
     lines: &mut Lines,
     out: &mut Vec<u8>,
 ) -> Result<(), NoMemory>
-    ensures served { OnOk result (KeepsServed session.old lines.old out.old.items session.new lines.new out.new.items) }
+    ensures served { OnOk result (KeepsServed
+        session.old lines.old out.old.items session.new lines.new out.new.items) }
     ensures open { OnOk result (HasNoNewline lines.new) }
 {
     while let Some(line) = lines.next()? {
@@ -73,7 +75,8 @@ pub fn answer_piece(
     piece: &[u8],
     out: &mut Vec<u8>,
 ) -> Result<(), NoMemory>
-    ensures served { OnOk result (TakesPiece piece.now session.old lines.old out.old.items session.new lines.new out.new.items) }
+    ensures served { OnOk result (TakesPiece piece.now
+        session.old lines.old out.old.items session.new lines.new out.new.items) }
     ensures open { OnOk result (HasNoNewline lines.new) }
 {
     lines.feed(piece)?;
@@ -89,7 +92,9 @@ pub fn answer_end(
     out: &mut Vec<u8>,
 ) -> Result<(), NoMemory>
     requires { HasNoNewline lines.old }
-    ensures { OnOk result ((taken : Option (List ℕ)) → WritesAll session.old lines.old (with_bytes out.old.items taken) (with_bytes out.new.items taken)) }
+    ensures { OnOk result ((taken : Option (List ℕ))
+        → WritesAll session.old lines.old (with_bytes out.old.items taken)
+        (with_bytes out.new.items taken)) }
 {
     match lines.finish()? {
         None => Ok(()),

@@ -21,7 +21,8 @@ pub fn port_of<'a>(tokens: &[Token<'a>]) -> Option<&'a [u8]>
 }
 
 fn port_at<'a>(tokens: &[Token<'a>], port: &Token<'a>) -> Option<&'a [u8]>
-    ensures { option_copied result ≡ spec.port_among (map lexeme tokens.now) (Some (lexeme port.now)) }
+    ensures { option_copied result ≡ spec.port_among (map lexeme tokens.now)
+        (Some (lexeme port.now)) }
 {
     if have_form(tokens, port) {
         Some(port.text)

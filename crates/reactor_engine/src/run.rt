@@ -24,6 +24,7 @@ const USAGE: &[u8] = b"usage: reactor run PROJECT\n";
 
 /// Runs the project that the words ask for: shows its first frame, and then answers the script line by line. The
 /// answers to all whole lines that were read are written before the next read.
+#[tactic(auto, using(crate::proofs::Running::refused_always))]
 pub fn reactor_run<H: Shelf, S: Source, K: Sink, L: Ledger>(
     alloc: Global,
     words: &Words,
@@ -54,9 +55,12 @@ pub fn reactor_run<H: Shelf, S: Source, K: Sink, L: Ledger>(
         → Compiles files project (Err fault) → IsRefusal result)) }
 
     // A failure is answered only where the count of the object that failed shows it.
-    ensures read_fault { result ≡ Status.ReadFault → Rose (S.faults script.old) (S.faults script.new) }
-    ensures write_fault { result ≡ Status.WriteFault → Rose (K.faults screen.old) (K.faults screen.new) }
-    ensures shelf_fault { result ≡ Status.ShelfFault → Rose (H.faults shelf.old) (H.faults shelf.new) }
+    ensures read_fault { result ≡ Status.ReadFault
+        → Rose (S.faults script.old) (S.faults script.new) }
+    ensures write_fault { result ≡ Status.WriteFault
+        → Rose (K.faults screen.old) (K.faults screen.new) }
+    ensures shelf_fault { result ≡ Status.ShelfFault
+        → Rose (H.faults shelf.old) (H.faults shelf.new) }
 
     // And no failure is passed over: where another status is answered, the count stands as it did. A shelf's failure
     // is reported, unless its line can't be made or written.
@@ -97,7 +101,8 @@ fn run<H: Shelf, S: Source, K: Sink>(
     script: &mut S,
     screen: &mut K,
 ) -> Status
-    ensures ends { Run (project_of words.now) (H.files shelf.old) (H.faults shelf.old) (H.faults shelf.new)
+    ensures ends { Run (project_of words.now) (H.files shelf.old) (H.faults shelf.old)
+        (H.faults shelf.new)
         (record { reads = S.faults script.old; writes = K.faults screen.old; left = S.left script.old; taken = K.taken screen.old })
         (record { reads = S.faults script.new; writes = K.faults screen.new; left = S.left script.new; taken = K.taken screen.new })
         result }
@@ -133,7 +138,8 @@ fn run_project<H: Shelf, S: Source, K: Sink>(
     script: &mut S,
     screen: &mut K,
 ) -> Status
-    ensures ends { ProjectRun project.now (H.files shelf.old) (H.faults shelf.old) (H.faults shelf.new)
+    ensures ends { ProjectRun project.now (H.files shelf.old) (H.faults shelf.old)
+        (H.faults shelf.new)
         (record { reads = S.faults script.old; writes = K.faults screen.old; left = S.left script.old; taken = K.taken screen.old })
         (record { reads = S.faults script.new; writes = K.faults screen.new; left = S.left script.new; taken = K.taken screen.new })
         result }
@@ -153,7 +159,8 @@ fn run_project<H: Shelf, S: Source, K: Sink>(
 
 /// Writes which fault the project has.
 fn refuse<K: Sink>(alloc: Global, fault: &ProjectFault, screen: &mut K) -> Status
-    ensures told { Reports Status.ProjectRefused (fault_line fault.now) (K.faults screen.old) (K.faults screen.new)
+    ensures told { Reports Status.ProjectRefused (fault_line fault.now)
+        (K.faults screen.old) (K.faults screen.new)
         (K.taken screen.old) (K.taken screen.new) result }
     ensures kept { result ≢ Status.WriteFault → K.faults screen.new ≡ K.faults screen.old }
 {
@@ -166,7 +173,8 @@ fn refuse<K: Sink>(alloc: Global, fault: &ProjectFault, screen: &mut K) -> Statu
 
 /// Writes which file could not be read.
 fn report_shelf<K: Sink>(alloc: Global, file: &Name, screen: &mut K) -> Status
-    ensures told { Reports Status.ShelfFault (shelf_line file.now) (K.faults screen.old) (K.faults screen.new)
+    ensures told { Reports Status.ShelfFault (shelf_line file.now)
+        (K.faults screen.old) (K.faults screen.new)
         (K.taken screen.old) (K.taken screen.new) result }
     ensures kept { result ≢ Status.WriteFault → K.faults screen.new ≡ K.faults screen.old }
 {

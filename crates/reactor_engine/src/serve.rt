@@ -32,7 +32,8 @@ pub fn serve<S: Source, K: Sink>(
     script: &mut S,
     screen: &mut K,
 ) -> Status
-    ensures { (files : Files) → let first = begun (record { port = port }) files in Serves (frame_of first) first
+    ensures { (files : Files)
+        → let first = begun (record { port = port }) files in Serves (frame_of first) first
         (record { reads = S.faults script.old; writes = K.faults screen.old; left = S.left script.old; taken = K.taken screen.old })
         (record { reads = S.faults script.new; writes = K.faults screen.new; left = S.left script.new; taken = K.taken screen.new })
         result }
@@ -46,9 +47,11 @@ pub fn serve<S: Source, K: Sink>(
 
 /// Writes the frame of the session.
 fn show_and_put<K: Sink>(alloc: Global, session: &Session, screen: &mut K) -> Result<(), Status>
-    ensures ok { OnOk result ((files : Files) → K.taken screen.new ≡ with_bytes (frame_of (state_of session.now files)) (K.taken screen.old)) }
+    ensures ok { OnOk result ((files : Files) → K.taken screen.new
+        ≡ with_bytes (frame_of (state_of session.now files)) (K.taken screen.old)) }
     ensures quiet { OnOk result (K.faults screen.new ≡ K.faults screen.old) }
-    ensures err { IfErr result (λ status. Unwritten (K.faults screen.old) (K.faults screen.new) status) }
+    ensures err { IfErr result (λ status.
+        Unwritten (K.faults screen.old) (K.faults screen.new) status) }
 {
     let mut out = Vec::new(alloc);
     session.write_frame(alloc, &mut out)?;
@@ -60,7 +63,8 @@ fn show_and_put<K: Sink>(alloc: Global, session: &Session, screen: &mut K) -> Re
 fn put_all<K: Sink>(screen: &mut K, bytes: &[u8]) -> Result<(), Status>
     ensures ok { OnOk result (K.taken screen.new ≡ with_bytes bytes.now (K.taken screen.old)) }
     ensures quiet { OnOk result (K.faults screen.new ≡ K.faults screen.old) }
-    ensures err { IfErr result (λ status. (status ≡ Status.WriteFault) × Rose (K.faults screen.old) (K.faults screen.new)) }
+    ensures err { IfErr result (λ status. (status ≡ Status.WriteFault)
+        × Rose (K.faults screen.old) (K.faults screen.new)) }
 {
     match put(screen, bytes) {
         Ok(()) => Ok(()),
@@ -132,7 +136,8 @@ fn finish<K: Sink>(
     screen: &mut K,
 ) -> Status
     requires { HasNoNewline lines.old }
-    ensures { EndsIn Status.Done (WritesAll session.old lines.old (K.taken screen.old) (K.taken screen.new))
+    ensures { EndsIn Status.Done (WritesAll session.old lines.old (K.taken screen.old)
+        (K.taken screen.new))
         (K.faults screen.old) (K.faults screen.new) result }
 {
     match end_and_put(alloc, session, lines, screen) {
@@ -185,7 +190,8 @@ fn answer_and_put<K: Sink>(
         session.old lines.old (K.taken screen.old) session.new lines.new (K.taken screen.new)) }
     ensures open { OnOk result (HasNoNewline lines.new) }
     ensures quiet { OnOk result (K.faults screen.new ≡ K.faults screen.old) }
-    ensures err { IfErr result (λ status. Unwritten (K.faults screen.old) (K.faults screen.new) status) }
+    ensures err { IfErr result (λ status.
+        Unwritten (K.faults screen.old) (K.faults screen.new) status) }
 {
     let mut out = Vec::new(alloc);
     answer_piece(alloc, session, lines, piece, &mut out)?;
@@ -201,9 +207,11 @@ fn end_and_put<K: Sink>(
     screen: &mut K,
 ) -> Result<(), Status>
     requires { HasNoNewline lines.old }
-    ensures all { OnOk result (WritesAll session.old lines.old (K.taken screen.old) (K.taken screen.new)) }
+    ensures all { OnOk result (WritesAll session.old lines.old (K.taken screen.old)
+        (K.taken screen.new)) }
     ensures quiet { OnOk result (K.faults screen.new ≡ K.faults screen.old) }
-    ensures err { IfErr result (λ status. Unwritten (K.faults screen.old) (K.faults screen.new) status) }
+    ensures err { IfErr result (λ status.
+        Unwritten (K.faults screen.old) (K.faults screen.new) status) }
 {
     let mut out = Vec::new(alloc);
     answer_end(alloc, session, lines, &mut out)?;

@@ -50,7 +50,8 @@ impl Session {
 
     /// Appends the frame at the cursor.
     pub fn write_frame(&self, alloc: Global, out: &mut Vec<u8>) -> Result<(), NoMemory>
-        ensures written { OnOk result ((files : Files) → out.new.items ≡ out.old.items ++ frame_of (state_of self.now files)) }
+        ensures written { OnOk result ((files : Files) → out.new.items ≡ out.old.items
+            ++ frame_of (state_of self.now files)) }
         ensures kept { OnErr result (out.new.items ≡ out.old.items) }
     {
         let mut rows = Items::new(alloc);
@@ -82,7 +83,8 @@ impl Session {
 
     /// Lets an input take a value, if that is served.
     fn input(&mut self, name: Name, text: &Name) -> Result<Answer, NoMemory>
-        ensures made { IfOk result (λ answer. Makes (λ state. next state (command.Input name text.now) None) self.old self.new answer) }
+        ensures made { IfOk result (λ answer.
+            Makes (λ state. next state (command.Input name text.now) None) self.old self.new answer) }
         ensures kept { OnErr result (IsKept self.old self.new) }
     {
         if is_served(name.bytes(), text.bytes()) {
@@ -94,7 +96,8 @@ impl Session {
 
     /// Lets an input take a value, if the program has the input.
     fn served_input(&mut self, name: Name, text: &Name) -> Result<Answer, NoMemory>
-        ensures made { IfOk result (λ answer. Makes (λ state. input state name text.now) self.old self.new answer) }
+        ensures made { IfOk result (λ answer. Makes (λ state. input state name text.now)
+            self.old self.new answer) }
         ensures kept { OnErr result (IsKept self.old self.new) }
     {
         if self.port.is(name.bytes()) {
@@ -107,7 +110,8 @@ impl Session {
     /// Records that the port takes this integer, if there is one and an event more may be recorded.
     fn accept(&mut self, name: Name, number: Option<i64>) -> Result<Answer, NoMemory>
         requires { self.old.port ≡ name }
-        ensures made { IfOk result (λ answer. Makes (λ state. input_value state name number) self.old self.new answer) }
+        ensures made { IfOk result (λ answer. Makes (λ state. input_value state name number)
+            self.old self.new answer) }
         ensures kept { OnErr result (IsKept self.old self.new) }
     {
         match number {
@@ -122,7 +126,8 @@ impl Session {
     /// Records that the port takes this integer, if an event more may be recorded.
     fn record(&mut self, name: Name, number: i64) -> Result<Answer, NoMemory>
         requires { self.old.port ≡ name }
-        ensures made { IfOk result (λ answer. Makes (λ state. input_value state name (Some number)) self.old self.new answer) }
+        ensures made { IfOk result (λ answer. Makes (λ state. input_value state name (Some number))
+            self.old self.new answer) }
         ensures kept { OnErr result (IsKept self.old self.new) }
     {
         if self.events.len() < MAX_EVENTS as usize {
@@ -139,7 +144,8 @@ impl Session {
         requires port { self.old.port ≡ name }
         requires few { length self.old.events.items < 1000000 }
         ensures port { self.new.port ≡ self.old.port }
-        ensures ok { OnOk result (self.new.events.items ≡ self.old.events.items ++ event.Input name type.Int (value.Int number) ∷ []) }
+        ensures ok { OnOk result (self.new.events.items ≡ self.old.events.items
+            ++ event.Input name type.Int (value.Int number) ∷ []) }
         ensures kept { OnErr result (IsKept self.old self.new) }
     {
         self.events.push(Event::Input {
@@ -174,7 +180,8 @@ fn has_no_point(name: &[u8]) -> bool
 }
 
 fn is_plain(text: &[u8]) -> bool
-    ensures { result ≡ list_all (λ byte. nat_le 32 byte && nat_le byte 126 && not (byte == 40)) text.now }
+    ensures { result ≡ list_all (λ byte. nat_le 32 byte && nat_le byte 126 && not (byte == 40))
+        text.now }
 {
     text.iter().all(|byte| is_plain_byte(*byte))
 }

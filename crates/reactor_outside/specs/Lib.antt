@@ -4,6 +4,8 @@ pub mod Sink
 pub mod Shelf
 pub mod Calls
 pub mod Table
+pub mod Pieces
 pub mod Repeated
 pub mod Memory
 pub mod Supply
+pub mod Errors

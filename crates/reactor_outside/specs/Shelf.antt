@@ -29,12 +29,16 @@ AnswersRead bytes file limit (Err NoMemory) = (held : List ℕ) × (file ≡ Som
 abbrev pub SameElsewhere : List ℕ → Files → Files → Type 0
 SameElsewhere name before after = (other : List ℕ) → other ≢ name → after other ≡ before other
 
+-- the same files
+abbrev pub SameFiles : Files → Files → Type 0
+SameFiles before after = (other : List ℕ) → after other ≡ before other
+
 -- What a write leaves: the bytes at the name after Ok, anything there after a failure, and all as it was where memory
 -- ran out. No other file changes, and no other answer comes.
 abbrev pub Writes : List ℕ → List ℕ → Files → Files → Result (Unit {0}) ShelfRefusal → Type 0
 Writes name bytes before after (Ok done) = (after name ≡ Some bytes) × SameElsewhere name before after
 Writes name bytes before after (Err Failed) = SameElsewhere name before after
-Writes name bytes before after (Err NoMemory) = (other : List ℕ) → after other ≡ before other
+Writes name bytes before after (Err NoMemory) = SameFiles before after
 Writes name bytes before after (Err Missing) = ⊥
 Writes name bytes before after (Err TooLong) = ⊥
 

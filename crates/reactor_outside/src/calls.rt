@@ -17,7 +17,11 @@ impl Model for CallCount {
 
     ghost Value = { Calls };
 
-    ghost view = { λ count. record { made = count.made; failing = count.failing.items; failed = count.failed } };
+    ghost view = { λ count. record {
+      made = count.made;
+      failing = count.failing.items;
+      failed = count.failed;
+    } };
 }
 
 impl CallCount {

@@ -1,4 +1,8 @@
-ghost use Rattle.std.specs.Prelude.{◌≡◌, ◌≤◌, None, length, IfOk, IfErr};
+ghost use Rattle.std.specs.Prelude.{◌≡◌, ◌≢◌, ◌≤◌, ◌<◌, List, ℕ, None, length, Err, IfSome, IfOk, IfErr, OnOk};
+ghost use Rattle.std.specs.Io.KnownBytes.{Appends};
+ghost use Rattle.std.specs.IoError.{error_kind};
+ghost use Rattle.reactor_outside.specs.declared.shelf.ShelfRefusal.TheVariants.{TooLong};
+ghost use Rattle.reactor_outside.specs.Errors.{failure_at, refusal_at};
 ghost use Rattle.reactor_outside.specs.Shelf.{CountsCall, RefusesWrite};
 
 use crate::shelf::{Shelf, ShelfRefusal};
@@ -24,13 +28,44 @@ impl<R: Files> FolderShelf<R> {
     }
 }
 
-// The answer for an error of the system. Only a file that isn't there is missing: every other error is a failure.
-fn refusal_of(error: io::Error) -> ShelfRefusal {
+// The answer for an error at an open file, or at a file that is to be written.
+fn failure_of(error: io::Error) -> ShelfRefusal
+    ensures { result ≡ failure_at (error_kind error) }
+{
     match error.kind() {
-        ErrorKind::NotFound => ShelfRefusal::Missing,
         ErrorKind::OutOfMemory => ShelfRefusal::NoMemory,
         _ => ShelfRefusal::Failed,
     }
+}
+
+// The answer for an error at a file that is to be opened for reading. Only a file that isn't there is missing.
+fn refusal_of(error: io::Error) -> ShelfRefusal
+    ensures { result ≡ refusal_at (error_kind error) }
+{
+    match error.kind() {
+        ErrorKind::NotFound => ShelfRefusal::Missing,
+        ErrorKind::NotADirectory => ShelfRefusal::Missing,
+        _ => failure_of(error),
+    }
+}
+
+// The bytes of an open file, where it has at most `limit` of them.
+fn read_whole<F: Read + Drop>(alloc: Global, file: F, limit: usize) -> Result<Vec<u8>, ShelfRefusal>
+    ensures within { IfOk result (λ bytes. length bytes.items ≤ limit) }
+    ensures whole { IfOk result (λ bytes. IfSome (F.remaining file) (λ held. bytes.items ≡ held)) }
+    ensures too_long { result ≡ Err TooLong
+        → IfSome (F.remaining file) (λ held. limit < length held) }
+{
+    let mut bytes = Vec::new(alloc);
+    let mut first = file.take((limit as u64).saturating_add(1));
+    match first.read_to_end(&mut bytes) {
+        Ok(_) => {}
+        Err(error) => return Err(failure_of(error)),
+    }
+    if bytes.len() > limit {
+        return Err(ShelfRefusal::TooLong);
+    }
+    Ok(bytes)
 }
 
 // The bytes of the file, where it has at most `limit` of them.
@@ -42,25 +77,21 @@ fn read_file<R: Files>(
 ) -> Result<Vec<u8>, ShelfRefusal>
     ensures { IfOk result (λ bytes. length bytes.items ≤ limit) }
 {
-    let mut file = OpenOptions::new()
-        .read(true)
-        .open(runtime, name)
-        .map_err(refusal_of)?;
-    let mut bytes = Vec::new(alloc);
-    let mut chunk = [0u8; 4096];
-    for _ in 0..u64::MAX {
-        let count = file.read(&mut chunk).map_err(refusal_of)?;
-        if count == 0 {
-            return Ok(bytes);
-        }
-        if count > limit - bytes.len() {
-            return Err(ShelfRefusal::TooLong);
-        }
-        bytes
-            .extend_from_slice(&chunk[..count])
-            .map_err(|_| ShelfRefusal::NoMemory)?;
+    match OpenOptions::new().read(true).open(runtime, name) {
+        Ok(file) => read_whole(alloc, file, limit),
+        Err(error) => Err(refusal_of(error)),
     }
-    Err(ShelfRefusal::Failed)
+}
+
+// Puts the bytes behind those that an open file has.
+fn write_whole<F: Write>(file: &mut F, bytes: &[u8]) -> Result<(), ShelfRefusal>
+    ensures whole { OnOk result (Appends (F.contents file.old) (F.contents file.new) bytes.now) }
+    ensures refused { IfErr result RefusesWrite }
+{
+    match file.write_all(bytes) {
+        Ok(()) => Ok(()),
+        Err(_) => Err(ShelfRefusal::Failed),
+    }
 }
 
 // Puts the bytes in the file. That its folder isn't there is a failure.
@@ -73,14 +104,8 @@ fn write_file<R: Files>(runtime: &R, name: &str, bytes: &[u8]) -> Result<(), She
         .truncate(true)
         .open(runtime, name);
     match opened {
-        Ok(mut file) => match file.write_all(bytes) {
-            Ok(()) => Ok(()),
-            Err(_) => Err(ShelfRefusal::Failed),
-        },
-        Err(error) => match error.kind() {
-            ErrorKind::OutOfMemory => Err(ShelfRefusal::NoMemory),
-            _ => Err(ShelfRefusal::Failed),
-        },
+        Ok(mut file) => write_whole(&mut file, bytes),
+        Err(error) => Err(failure_of(error)),
     }
 }
 

@@ -9,6 +9,7 @@ mod folder;
 mod memory;
 mod pieces;
 mod repeated;
+mod retry;
 mod shelf;
 mod shelves;
 mod sink;
@@ -25,6 +26,3 @@ pub use sink::{Sink, put};
 pub use source::{Failed, Source};
 pub use streams::{ReaderSource, WriterSink};
 pub use sure::{SureSink, SureSource};
-
-#[cfg(test)]
-mod tests;

@@ -1,8 +1,9 @@
-ghost use Rattle.std.specs.Prelude.{◌≡◌, ◌<◌, ◌≤◌, ℕ, [], All, Some, true, false, vec_len, length, take, IfOk, OnOk, OnErr, IsErr, IsTrue};
+ghost use Rattle.std.specs.Prelude.{◌≡◌, ◌<◌, ◌≤◌, ℕ, [], All, Some, None, true, false, vec_len, length, take, IfOk, OnOk, OnErr, IsErr, IsTrue};
 ghost use Rattle.std.specs.Result.{is_err};
 ghost use Rattle.reactor_outside.specs.Count.{Counts};
 ghost use Rattle.reactor_outside.specs.Source.{after_bytes, HoldsNext, EndsExactly};
 ghost use Rattle.reactor_outside.specs.Sink.{with_bytes};
+ghost use Rattle.reactor_outside.specs.Pieces.{HandsOut, most_bytes};
 ghost use Rattle.reactor_outside.specs.Repeated.{repeated};
 ghost use Rattle.reactor_outside.specs.Calls.{Calls, next_fails, after_call};
 
@@ -21,7 +22,7 @@ enum Supply {
 }
 
 /// A source over memory that fails at calls of given numbers, counted from 1.
-/// Contracts see it as the bytes left and its calls.
+/// Contracts see it as the bytes left, the sizes of the pieces in which they come where it was given any, and its calls.
 #[derive(Drop)]
 pub struct MemSource {
     supply: Supply,
@@ -33,9 +34,13 @@ impl Model for MemSource {
 
     ghost Value = { MemorySource };
 
-    ghost use Rattle.reactor_outside.specs.Supply.{bytes_left};
+    ghost use Rattle.reactor_outside.specs.Supply.{bytes_left, sizes_left};
 
-    ghost view = { λ source. record { left = bytes_left source.supply; calls = source.calls } };
+    ghost view = { λ source. record {
+      left = bytes_left source.supply;
+      sizes = sizes_left source.supply;
+      calls = source.calls;
+    } };
 }
 
 impl MemSource {
@@ -44,6 +49,7 @@ impl MemSource {
     pub fn new(bytes: Vec<u8>, pieces: Vec<usize>, failing: Vec<u64>) -> MemSource
         requires { All (λ size. 0 < size) pieces.items }
         ensures left { result.left ≡ bytes.items }
+        ensures sizes { result.sizes ≡ Some pieces.items }
         ensures calls { result.calls ≡ record { made = 0; failing = failing.items; failed = 0 } }
     {
         MemSource {
@@ -56,6 +62,7 @@ impl MemSource {
     pub fn repeating(piece: Vec<u8>, total: u64, failing: Vec<u64>) -> MemSource
         requires { 0 < vec_len piece }
         ensures left { result.left ≡ repeated piece.items total }
+        ensures sizes { result.sizes ≡ None }
         ensures calls { result.calls ≡ record { made = 0; failing = failing.items; failed = 0 } }
     {
         MemSource {
@@ -77,6 +84,10 @@ impl Source for MemSource {
         ensures rest { IfOk result (λ n. Some self.new.left ≡ after_bytes n (Some self.old.left)) }
         ensures end { IfOk result (λ n. EndsExactly n (Some self.old.left) into.old) }
         ensures failed { OnErr result (Some self.new.left ≡ Some self.old.left) }
+        // It hands out the next piece, cut by the slice and by the bytes left. A call that fails cuts none.
+        ensures piece { IfOk result (λ n.
+            HandsOut self.old.sizes (most_bytes into.old self.old.left) n self.new.sizes) }
+        ensures no_piece { OnErr result (self.new.sizes ≡ self.old.sizes) }
         // It fails exactly at the calls that are to fail, and counts each.
         ensures fails { is_err result ≡ next_fails self.old.calls }
         ensures calls { self.new.calls ≡ after_call (is_err result) self.old.calls }
@@ -137,7 +148,8 @@ impl Sink for MemSink {
         ensures count { Counts self.old.calls.failed self.new.calls.failed result }
         ensures within { IfOk result (λ n. n ≤ length piece.now) }
         ensures some { 0 < length piece.now → IfOk result (λ n. 0 < n) }
-        ensures took { IfOk result (λ n. Some self.new.taken ≡ with_bytes (take n piece.now) (Some self.old.taken)) }
+        ensures took { IfOk result (λ n.
+            Some self.new.taken ≡ with_bytes (take n piece.now) (Some self.old.taken)) }
         ensures failed { OnErr result (Some self.new.taken ≡ Some self.old.taken) }
         // It fails at each call that is to fail, and counts each call.
         ensures fails { IsTrue (next_fails self.old.calls) → IsErr result }

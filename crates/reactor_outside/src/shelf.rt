@@ -26,7 +26,8 @@ pub trait Shelf {
     /// The bytes of a file, where it has at most `limit` of them. No read changes a file.
     fn read(&mut self, alloc: Global, name: &str, limit: usize) -> Result<Vec<u8>, ShelfRefusal>
         ensures count { CountsCall (faults self.old) (faults self.new) result }
-        ensures answer { IfSome (files self.old) (λ told. AnswersRead (λ v. v.items) (told name.now) limit result) }
+        ensures answer { IfSome (files self.old) (λ told.
+            AnswersRead (λ v. v.items) (told name.now) limit result) }
         ensures same { files self.new ≡ files self.old };
 
     /// Puts the bytes at the name, in place of a file that was there.

@@ -1,6 +1,6 @@
 ghost use Rattle.std.specs.Prelude.{◌≡◌, ◌↔◌, ℕ, List, Some, None, IsTrue, OnOk, OnErr, IfErr, IsErrOf};
 ghost use Rattle.std.specs.Option.{option_copied};
-ghost use Rattle.reactor_outside.specs.Shelf.{SameElsewhere, AnswersRead, BothTold, CountsCall, RefusesWrite, Writes};
+ghost use Rattle.reactor_outside.specs.Shelf.{SameElsewhere, SameFiles, AnswersRead, BothTold, CountsCall, RefusesWrite, Writes};
 ghost use Rattle.reactor_outside.specs.Table.{files_in};
 ghost use Rattle.reactor_outside.specs.Calls.{next_fails, after_call};
 
@@ -32,8 +32,9 @@ impl SureShelf {
     /// Puts the bytes at the name, in place of a file that was there. It is no call of the shelf.
     pub fn add(&mut self, name: &str, bytes: &[u8]) -> Result<(), NoMemory>
         ensures there { OnOk result (files_in self.new.table name.now ≡ Some bytes.now) }
-        ensures others { OnOk result (SameElsewhere name.now (files_in self.old.table) (files_in self.new.table)) }
-        ensures err { OnErr result ((other : List ℕ) → files_in self.new.table other ≡ files_in self.old.table other) }
+        ensures others { OnOk result
+            (SameElsewhere name.now (files_in self.old.table) (files_in self.new.table)) }
+        ensures err { OnErr result (SameFiles (files_in self.old.table) (files_in self.new.table)) }
     {
         put_file(self.alloc, &mut self.table, name, bytes)
     }
@@ -87,8 +88,9 @@ impl MemShelf {
     /// Puts the bytes at the name, in place of a file that was there. It is no call of the shelf.
     pub fn add(&mut self, name: &str, bytes: &[u8]) -> Result<(), NoMemory>
         ensures there { OnOk result (files_in self.new.table name.now ≡ Some bytes.now) }
-        ensures others { OnOk result (SameElsewhere name.now (files_in self.old.table) (files_in self.new.table)) }
-        ensures err { OnErr result ((other : List ℕ) → files_in self.new.table other ≡ files_in self.old.table other) }
+        ensures others { OnOk result
+            (SameElsewhere name.now (files_in self.old.table) (files_in self.new.table)) }
+        ensures err { OnErr result (SameFiles (files_in self.old.table) (files_in self.new.table)) }
         ensures calls { self.new.calls ≡ self.old.calls }
     {
         put_file(self.alloc, &mut self.table, name, bytes)
@@ -109,7 +111,8 @@ impl Shelf for MemShelf {
 
     fn read(&mut self, alloc: Global, name: &str, limit: usize) -> Result<Vec<u8>, ShelfRefusal>
         ensures count { CountsCall self.old.calls.failed self.new.calls.failed result }
-        ensures answer { AnswersRead (λ v. v.items) (files_in self.old.table name.now) limit result }
+        ensures answer { AnswersRead (λ v. v.items)
+            (files_in self.old.table name.now) limit result }
         ensures same { Some (files_in self.new.table) ≡ Some (files_in self.old.table) }
         // It fails exactly at the calls that are to fail, and counts each call.
         ensures fails { IsTrue (next_fails self.old.calls) ↔ IsErrOf result ShelfRefusal.Failed }

@@ -18,7 +18,8 @@ pub trait Sink {
         ensures count { Counts (faults self.old) (faults self.new) result }
         ensures within { IfOk result (λ n. n ≤ length piece.now) }
         ensures some { 0 < length piece.now → IfOk result (λ n. 0 < n) }
-        ensures took { IfOk result (λ n. taken self.new ≡ with_bytes (take n piece.now) (taken self.old)) }
+        ensures took { IfOk result (λ n.
+            taken self.new ≡ with_bytes (take n piece.now) (taken self.old)) }
         ensures failed { OnErr result (taken self.new ≡ taken self.old) };
 }
 

@@ -1,8 +1,8 @@
 //! Files that are kept in memory, in a map from their names.
-ghost use Rattle.std.specs.Prelude.{◌≡◌, Some, IfErr, OnOk, OnErr, List, ℕ};
+ghost use Rattle.std.specs.Prelude.{◌≡◌, Some, IfErr, OnOk, OnErr};
 ghost use Rattle.std.specs.Option.{option_copied};
 ghost use Rattle.reactor_outside.specs.declared.shelf.ShelfRefusal.TheVariants.{Failed};
-ghost use Rattle.reactor_outside.specs.Shelf.{AnswersRead, SameElsewhere};
+ghost use Rattle.reactor_outside.specs.Shelf.{AnswersRead, SameElsewhere, SameFiles};
 ghost use Rattle.reactor_outside.specs.Table.{files_in};
 
 use crate::shelf::ShelfRefusal;
@@ -54,8 +54,9 @@ pub fn put_file(
     bytes: &[u8],
 ) -> Result<(), NoMemory>
     ensures there { OnOk result (files_in table.new name.now ≡ Some bytes.now) }
-    ensures others { OnOk result (SameElsewhere name.now (files_in table.old) (files_in table.new)) }
-    ensures err { OnErr result ((other : List ℕ) → files_in table.new other ≡ files_in table.old other) }
+    ensures others { OnOk result
+        (SameElsewhere name.now (files_in table.old) (files_in table.new)) }
+    ensures err { OnErr result (SameFiles (files_in table.old) (files_in table.new)) }
 {
     let key = String::from_str(alloc, name)?;
     let bytes = Vec::from_slice(alloc, bytes)?;

@@ -91,53 +91,55 @@ fn run_first(
     Ok((status, sink.bytes().to_vec(alloc)?))
 }
 
+/// Scripts with their answers behind the first frame.
+const SCRIPTS: [(&str, &str); 26] = [
+    ("", ""),
+    ("input p 5\n", "at 1 of 1\n| 5\n.\n"),
+    ("input p 5", "at 1 of 1\n| 5\n.\n"),
+    ("input p 5\r\n", "at 1 of 1\n| 5\n.\n"),
+    ("input p 5\r", "refused Unsupported\n"),
+    ("  input   p   5  \n", "at 1 of 1\n| 5\n.\n"),
+    (
+        "input p 5\ninput p -7\n",
+        "at 1 of 1\n| 5\n.\nat 2 of 2\n| -7\n.\n",
+    ),
+    ("input p 007\n", "at 1 of 1\n| 7\n.\n"),
+    ("input p -0\n", "at 1 of 1\n| 0\n.\n"),
+    (
+        "input p 9223372036854775807\n",
+        "at 1 of 1\n| 9223372036854775807\n.\n",
+    ),
+    (
+        "input p -9223372036854775808\n",
+        "at 1 of 1\n| -9223372036854775808\n.\n",
+    ),
+    ("input p 9223372036854775808\n", "refused BadValue p Int\n"),
+    ("input p -9223372036854775809\n", "refused BadValue p Int\n"),
+    ("input p +5\n", "refused BadValue p Int\n"),
+    ("input p -\n", "refused BadValue p Int\n"),
+    ("input p 5 6\n", "refused BadValue p Int\n"),
+    ("input q x\n", "refused UnknownInput q\n"),
+    (
+        "input q 5\ninput p 5\n",
+        "refused UnknownInput q\nat 1 of 1\n| 5\n.\n",
+    ),
+    ("\n", "refused Unsupported\n"),
+    ("# words\n", "refused Unsupported\n"),
+    ("input p\n", "refused Unsupported\n"),
+    ("input p (5)\n", "refused Unsupported\n"),
+    ("input a.b 5\n", "refused Unsupported\n"),
+    ("input p\t5\n", "refused Unsupported\n"),
+    ("input p \u{e9}\n", "refused Unsupported\n"),
+    (
+        "input p 5\ninput q 5\ninput p x\ngoto 0\n",
+        "at 1 of 1\n| 5\n.\nrefused UnknownInput q\nrefused BadValue p Int\nrefused Unsupported\n",
+    ),
+];
+
 #[test]
 fn scripts_in_pieces(rt: HostRuntime) -> Result<(), Fail> {
     let start = "at 0 of 0\n| 0\n.\n";
-    let rows = [
-        ("", ""),
-        ("input p 5\n", "at 1 of 1\n| 5\n.\n"),
-        ("input p 5", "at 1 of 1\n| 5\n.\n"),
-        ("input p 5\r\n", "at 1 of 1\n| 5\n.\n"),
-        ("input p 5\r", "refused Unsupported\n"),
-        ("  input   p   5  \n", "at 1 of 1\n| 5\n.\n"),
-        (
-            "input p 5\ninput p -7\n",
-            "at 1 of 1\n| 5\n.\nat 2 of 2\n| -7\n.\n",
-        ),
-        ("input p 007\n", "at 1 of 1\n| 7\n.\n"),
-        ("input p -0\n", "at 1 of 1\n| 0\n.\n"),
-        (
-            "input p 9223372036854775807\n",
-            "at 1 of 1\n| 9223372036854775807\n.\n",
-        ),
-        (
-            "input p -9223372036854775808\n",
-            "at 1 of 1\n| -9223372036854775808\n.\n",
-        ),
-        ("input p 9223372036854775808\n", "refused BadValue p Int\n"),
-        ("input p -9223372036854775809\n", "refused BadValue p Int\n"),
-        ("input p +5\n", "refused BadValue p Int\n"),
-        ("input p -\n", "refused BadValue p Int\n"),
-        ("input p 5 6\n", "refused BadValue p Int\n"),
-        ("input q x\n", "refused UnknownInput q\n"),
-        (
-            "input q 5\ninput p 5\n",
-            "refused UnknownInput q\nat 1 of 1\n| 5\n.\n",
-        ),
-        ("\n", "refused Unsupported\n"),
-        ("# words\n", "refused Unsupported\n"),
-        ("input p\n", "refused Unsupported\n"),
-        ("input p (5)\n", "refused Unsupported\n"),
-        ("input a.b 5\n", "refused Unsupported\n"),
-        ("input p\t5\n", "refused Unsupported\n"),
-        ("input p \u{e9}\n", "refused Unsupported\n"),
-        (
-            "input p 5\ninput q 5\ninput p x\ngoto 0\n",
-            "at 1 of 1\n| 5\n.\nrefused UnknownInput q\nrefused BadValue p Int\nrefused Unsupported\n",
-        ),
-    ];
-    for (script, answers) in rows {
+    for (script, answers) in SCRIPTS {
         for size in [1, 3, 4096] {
             let (status, written) = run_first(
                 rt.alloc(),
@@ -192,57 +194,59 @@ fn a_line_that_is_no_text(rt: HostRuntime) -> Result<(), Fail> {
     Ok(())
 }
 
+/// Texts of Main with the faults of their projects.
+const FAULTS: [(&str, &str); 13] = [
+    ("", "Main 0 Unsupported -"),
+    (
+        "import Graphics.Element exposing (..)\nport p : Signal Int\n",
+        "Main 0 Unsupported -",
+    ),
+    (
+        "import Graphics.Element exposing (..)\nport p : Signal Int\nmain = Signal.map show q\n",
+        "Main 0 Unsupported -",
+    ),
+    (
+        "import Graphics.Element exposing (..)\nport main : Signal Int\nmain = Signal.map show main\n",
+        "Main 0 Unsupported -",
+    ),
+    (
+        "import Graphics.Element exposing (..)\nport show : Signal Int\nmain = Signal.map show show\n",
+        "Main 0 Unsupported -",
+    ),
+    (
+        "import Graphics.Element exposing (..)\nport let : Signal Int\nmain = Signal.map show let\n",
+        "Main 0 Unsupported -",
+    ),
+    (
+        "import Graphics.Element exposing (..)\nport p' : Signal Int\nmain = Signal.map show p'\n",
+        "Main 0 Unsupported -",
+    ),
+    (
+        "import Graphics.Element exposing (..)\n port p : Signal Int\nmain = Signal.map show p\n",
+        "Main 0 Unsupported -",
+    ),
+    (
+        "import Graphics.Element exposing (..)\nport p : Signal\nInt\nmain = Signal.map show p\n",
+        "Main 0 Unsupported -",
+    ),
+    (
+        "import Graphics.Element exposing (..)\nport p : Signal Int\nmain = show 1.5\n",
+        "Main 3 Excluded -",
+    ),
+    (
+        "import Graphics.Element exposing (..)\nport p : Signal Int\nmain = show 9223372036854775808\n",
+        "Main 3 IntTooWide -",
+    ),
+    (
+        "import Graphics.Element exposing (..)\n\tport p : Signal Int\n",
+        "Main 2 Tab -",
+    ),
+    ("import {- x\n", "Main 1 OpenComment -"),
+];
+
 #[test]
 fn faults_of_projects(rt: HostRuntime) -> Result<(), Fail> {
-    let rows = [
-        ("", "Main 0 Unsupported -"),
-        (
-            "import Graphics.Element exposing (..)\nport p : Signal Int\n",
-            "Main 0 Unsupported -",
-        ),
-        (
-            "import Graphics.Element exposing (..)\nport p : Signal Int\nmain = Signal.map show q\n",
-            "Main 0 Unsupported -",
-        ),
-        (
-            "import Graphics.Element exposing (..)\nport main : Signal Int\nmain = Signal.map show main\n",
-            "Main 0 Unsupported -",
-        ),
-        (
-            "import Graphics.Element exposing (..)\nport show : Signal Int\nmain = Signal.map show show\n",
-            "Main 0 Unsupported -",
-        ),
-        (
-            "import Graphics.Element exposing (..)\nport let : Signal Int\nmain = Signal.map show let\n",
-            "Main 0 Unsupported -",
-        ),
-        (
-            "import Graphics.Element exposing (..)\nport p' : Signal Int\nmain = Signal.map show p'\n",
-            "Main 0 Unsupported -",
-        ),
-        (
-            "import Graphics.Element exposing (..)\n port p : Signal Int\nmain = Signal.map show p\n",
-            "Main 0 Unsupported -",
-        ),
-        (
-            "import Graphics.Element exposing (..)\nport p : Signal\nInt\nmain = Signal.map show p\n",
-            "Main 0 Unsupported -",
-        ),
-        (
-            "import Graphics.Element exposing (..)\nport p : Signal Int\nmain = show 1.5\n",
-            "Main 3 Excluded -",
-        ),
-        (
-            "import Graphics.Element exposing (..)\nport p : Signal Int\nmain = show 9223372036854775808\n",
-            "Main 3 IntTooWide -",
-        ),
-        (
-            "import Graphics.Element exposing (..)\n\tport p : Signal Int\n",
-            "Main 2 Tab -",
-        ),
-        ("import {- x\n", "Main 1 OpenComment -"),
-    ];
-    for (main, fault) in rows {
+    for (main, fault) in FAULTS {
         let (status, written) = run_first(
             rt.alloc(),
             main.as_bytes(),
@@ -383,5 +387,29 @@ fn failures_of_texts(rt: HostRuntime) -> Result<(), Fail> {
     let (status, written) = run_first(rt.alloc(), b"x", b"", 4096, &screen)?;
     assert_eq!(rt; status, Status::WriteFault);
     assert!(rt; written.is_empty());
+    Ok(())
+}
+
+// A script of as many bytes as one may have is answered whole, and one of a byte more up to its last whole line before.
+#[test]
+fn a_script_that_is_too_long(rt: HostRuntime) -> Result<(), Fail> {
+    let alloc = rt.alloc();
+    let mut line = vec![in alloc; b'x'; 65_535]?;
+    line.push(b'\n')?;
+    for (total, wanted) in [
+        (1 << 30, Status::Done),
+        ((1 << 30) + 1, Status::ScriptTooLong),
+    ] {
+        let words = words_of(alloc, &["run", "first"])?;
+        let mut shelf = MemShelf::new(alloc, Vec::new(alloc));
+        shelf.add("first/Main.elm", FIRST)?;
+        let mut source = MemSource::repeating(line.to_vec(alloc)?, total, Vec::new(alloc));
+        let mut sink = MemSink::new(alloc, Vec::new(alloc));
+        let status = run_counted(alloc, &words, &mut shelf, &mut source, &mut sink);
+        assert_eq!(rt; status, wanted);
+        // 2^14 lines of 2^16 bytes, each answered by 20 bytes behind the first frame.
+        assert_eq!(rt; sink.bytes().len(), 16 + 20 * (1 << 14));
+        assert!(rt; sink.bytes().ends_with(b"refused Unsupported\n"));
+    }
     Ok(())
 }

@@ -50,7 +50,8 @@ fn alone(command: Command, rest: &[u8]) -> Option<Command>
 
 /// A name, and behind it the text of a value.
 fn input_of(alloc: Global, rest: &[u8]) -> Result<Option<Command>, NoMemory>
-    ensures { IfOk result (λ found. found ≡ spec.input_of (spec.first_word rest.now) (spec.after_word rest.now)) }
+    ensures { IfOk result (λ found. found ≡ spec.input_of (spec.first_word rest.now)
+        (spec.after_word rest.now)) }
 {
     let (name, value) = split_word(rest);
     if !is_input_name(name) || !is_value(value) {

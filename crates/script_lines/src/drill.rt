@@ -53,7 +53,8 @@ fn push_drawn(number: u64, out: &mut Vec<u8>) -> Result<(), NoMemory>
 /// Appends the next line, where so many were made.
 fn push_drill_line(made: u64, draws: &mut Draws, out: &mut Vec<u8>) -> Result<(), NoMemory>
     requires { made < 2000 }
-    ensures text { OnOk result (out.new.items ≡ out.old.items ++ (spec.drill_line made draws.old.x).text) }
+    ensures text { OnOk result (out.new.items ≡ out.old.items
+        ++ (spec.drill_line made draws.old.x).text) }
     ensures moved { OnOk result (draws.new.x ≡ (spec.drill_line made draws.old.x).x) }
 {
     let d = draws.draw() % 16;
@@ -63,7 +64,8 @@ fn push_drill_line(made: u64, draws: &mut Draws, out: &mut Vec<u8>) -> Result<()
 /// Appends the line for a draw of 0 to 15.
 fn push_line_for(d: u64, made: u64, draws: &mut Draws, out: &mut Vec<u8>) -> Result<(), NoMemory>
     requires { made < 2000 }
-    ensures text { OnOk result (out.new.items ≡ out.old.items ++ (spec.line_for d made draws.old.x).text) }
+    ensures text { OnOk result (out.new.items ≡ out.old.items
+        ++ (spec.line_for d made draws.old.x).text) }
     ensures moved { OnOk result (draws.new.x ≡ (spec.line_for d made draws.old.x).x) }
 {
     match d {
@@ -109,7 +111,8 @@ fn push_pair(left: u64, top: u64, out: &mut Vec<u8>) -> Result<(), NoMemory>
 /// Appends the line that moves the cursor to the next draw, at most as far as lines were made so far.
 fn push_rewind(made: u64, draws: &mut Draws, out: &mut Vec<u8>) -> Result<(), NoMemory>
     requires { made < 2000 }
-    ensures text { OnOk result (out.new.items ≡ out.old.items ++ (spec.rewind made draws.old.x).text) }
+    ensures text { OnOk result (out.new.items ≡ out.old.items
+        ++ (spec.rewind made draws.old.x).text) }
     ensures moved { OnOk result (draws.new.x ≡ (spec.rewind made draws.old.x).x) }
 {
     let cursor = draws.draw() % (made + 1);

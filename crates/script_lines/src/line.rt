@@ -24,7 +24,8 @@ pub enum Line {
 
 /// What these bytes say as a line, which a newline ended or not.
 pub fn read_line(alloc: Global, bytes: &[u8], ended: bool) -> Result<Line, NoMemory>
-    ensures { IfOk result (λ found. found ≡ reading.read_line (record { bytes = bytes.now; ended = ended })) }
+    ensures { IfOk result (λ found. found
+        ≡ reading.read_line (record { bytes = bytes.now; ended = ended })) }
 {
     if bytes.len() > MAX_LINE {
         return Ok(Line::TooLong);

@@ -104,6 +104,9 @@ fn give_back(bytes: &mut Vec<u8>, count: usize)
     requires { count ≤ length bytes.old.items }
     ensures { bytes.new.items ≡ drop count bytes.old.items }
 {
+    if count == 0 {
+        return;
+    }
     let left = bytes.len() - count;
     bytes.copy_within(count.., 0);
     bytes.truncate(left);

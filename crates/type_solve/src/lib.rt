@@ -1,23 +1,7 @@
-//! Solves equations between the types of a store.
+//! Equations between the types of a store, and sorts that meet its notes. What solves them stands in two crates beside each
+//! other, `type_unify` and `type_sorts`, and is handed on here under one name.
 #![tactic(auto)]
 
-mod bind;
-mod build;
-mod fields;
-mod flags;
-mod occurs;
-mod pair;
-mod parts;
-mod read;
-mod rows;
-mod solver;
-mod step;
-mod take;
-
-pub use build::{make_rest, make_rigid_rest, make_row, make_type};
-pub use rows::Tail;
-pub use solver::unify;
-pub use type_sorts::{NoSolution, sorts};
-
-#[cfg(test)]
-mod tests;
+pub use type_sorts::sorts;
+pub use type_terms::NoSolution;
+pub use type_unify::{Tail, Types, unify};

@@ -1,4 +1,3 @@
-mod Example
 mod Following
 mod Marks
 mod Meaning

@@ -2,14 +2,9 @@
 #![tactic(auto)]
 
 mod edge;
-mod no_solution;
 mod notes;
 mod reach;
 mod rests;
 mod vertex;
 
-pub use no_solution::NoSolution;
 pub use notes::sorts;
-
-#[cfg(test)]
-mod tests;

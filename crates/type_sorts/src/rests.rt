@@ -1,6 +1,6 @@
-ghost use Rattle.std.specs.Prelude.{◌≡◌, IfOk, length};
+ghost use Rattle.std.specs.Prelude.{◌≡◌, IfOk};
 ghost use Rattle.type_sorts.specs.Vertices.{AreRests, rest_of};
-ghost use Rattle.type_terms.specs.Depth.{doubled, IsSound};
+ghost use Rattle.type_terms.specs.Depth.{IsStored};
 ghost use Rattle.type_terms.specs.Terms.{nodes_of};
 
 use elm_base::NoMemory;
@@ -19,8 +19,9 @@ fn rest_of(shape: &Shape) -> Option<TermId>
 /// For each term whether it is the rest of a row.
 pub fn rests(alloc: Global, store: &Store) -> Result<Vec<bool>, NoMemory>
     ensures marks { IfOk result (λ marks. AreRests (nodes_of store.now) marks.items) }
-    ensures sound { IsSound (nodes_of store.now) (doubled (length store.now)) }
+    ensures sound { IsStored store.now }
 {
+    store.stays_sound();
     let terms = store.terms();
     let mut marks = vec![in alloc; false; terms]?;
     for at in 0..terms {

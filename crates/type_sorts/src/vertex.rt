@@ -16,7 +16,8 @@ fn last_result(store: &Store, at: TermId) -> TermId
     ensures inside { result < length (nodes_of store.now) }
     ensures end { IsLink (node_at (nodes_of store.now) result) → ⊥ }
     ensures value { IsArrow (node_at (nodes_of store.now) result) → ⊥ }
-    ensures sort { (s : Assignment) (chosen : ℕ → Sort) → Solves (nodes_of store.now) s → sort_of chosen (s at) ≡ sort_of chosen (s result) }
+    ensures sort { (s : Assignment) (chosen : ℕ → Sort) → Solves (nodes_of store.now) s
+        → sort_of chosen (s at) ≡ sort_of chosen (s result) }
 {
     let mut end = store.find(at);
     while let Shape::Arrow { to, .. } = store.shape(end) {

@@ -1,5 +1,4 @@
 pub mod Composed
-mod Example
 pub mod Existence
 pub mod Histories
 pub mod Linked

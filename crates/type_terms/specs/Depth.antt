@@ -21,6 +21,10 @@ pub record IsSound (nodes : List Node) (bound : ℕ) : Type 0 where
   pub inside : (i : ℕ) → Each (IsBelow (length nodes)) (below (node_at nodes i))
   pub small : length nodes < 2 ^ 32
 
+-- what a store keeps of its present terms
+abbrev pub IsStored : List State → Type 0
+IsStored store = IsSound (nodes_of store) (doubled (length store))
+
 -- the terms of each note stand in the store
 abbrev pub AreNotesBelow : ℕ → List (ℕ × ℕ) → Type 0
 AreNotesBelow n [] = Unit {0}

@@ -1,5 +1,5 @@
 -- What a store means: the assignments of ground types to its terms that respect shapes, links and flags.
-use Rattle.std.specs.Prelude.{◌≡◌, ℕ, List, [], ◌∷◌, Some, None, ◌==◌, if◌then◌else◌}
+use Rattle.std.specs.Prelude.{◌≡◌, ℕ, List, [], ◌∷◌, ◌↔◌, Some, None, ◌==◌, if◌then◌else◌}
 use Rattle.elm_typing.specs.declared.flag.Flag.{Flag}
 use Rattle.elm_typing.specs.declared.flag.Flag.TheVariants.{Plain}
 use Rattle.elm_typing.specs.Flags.{HasFlag}
@@ -66,3 +66,23 @@ MayBeRest _ = ⊥
 -- one term has another type
 abbrev pub with_type : Assignment → ℕ → Ground → Assignment
 with_type s at type i = if i == at then type else s i
+
+-- there is a solution
+abbrev pub IsSolvable : List Node → Type 0
+IsSolvable nodes = (s : Assignment) × Solves nodes s
+
+-- no solution has the property
+abbrev pub Never : List Node → (Assignment → Type 0) → Type 0
+Never nodes P = (s : Assignment) → Solves nodes s → P s → ⊥
+
+-- each solution has the property
+abbrev pub Always : List Node → (Assignment → Type 0) → Type 0
+Always nodes P = (s : Assignment) → Solves nodes s → P s
+
+-- the new solutions are the old ones that have the property
+abbrev pub KeepsThose : List Node → List Node → (Assignment → Type 0) → Type 0
+KeepsThose old new P = (s : Assignment) → Solves new s ↔ (Solves old s × P s)
+
+-- whatever type with the property the term has, the other terms may have the types of any old solution
+abbrev pub MayHave : List Node → List Node → ℕ → (Assignment → Ground → Type 0) → Type 0
+MayHave old new at P = (s : Assignment) (type : Ground) → Solves old s → P s type → InOrder type → Solves new (with_type s at type)

@@ -1,5 +1,5 @@
 -- A store as contracts see it, and how its terms hang together.
-use Rattle.std.specs.Prelude.{◌≡◌, ℕ, suc, List, [], ◌∷◌, ◌⊎◌, Some, None, slice_index_or}
+use Rattle.std.specs.Prelude.{◌≡◌, ℕ, suc, List, [], ◌∷◌, ◌++◌, ◌⊎◌, Some, None, slice_index_or, slice_set}
 use Rattle.elm_typing.specs.declared.flag.Flag.TheVariants.{Plain}
 use Rattle.type_terms.specs.declared.node.Node.{Node}
 use Rattle.type_terms.specs.declared.node.Node.TheVariants.{End, Link}
@@ -19,6 +19,18 @@ nodes_of (present ∷ earlier) = present.nodes
 abbrev pub notes_of : List State → List (ℕ × ℕ)
 notes_of [] = []
 notes_of (present ∷ earlier) = present.notes
+
+-- the store with one term more
+abbrev pub with_term : Shape → List State → List State
+with_term shape store = record { nodes = nodes_of store ++ End shape ∷ []; notes = notes_of store } ∷ store
+
+-- the store with this node in place of the one at this number
+abbrev pub with_node : ℕ → Node → List State → List State
+with_node at node store = record { nodes = slice_set (nodes_of store) at node; notes = notes_of store } ∷ store
+
+-- the store with one note more
+abbrev pub with_note : ℕ → ℕ → List State → List State
+with_note a b store = record { nodes = nodes_of store; notes = notes_of store ++ (a, b) ∷ [] } ∷ store
 
 -- a number that no term has stands for any type
 abbrev pub node_at : List Node → ℕ → Node

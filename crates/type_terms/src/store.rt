@@ -6,9 +6,9 @@ ghost use Rattle.elm_typing.specs.Ordered.{InOrder};
 ghost use Rattle.type_terms.specs.declared.node.Node.TheVariants.{End, Link};
 ghost use Rattle.type_terms.specs.declared.shape.Shape.{Shape};
 ghost use Rattle.type_terms.specs.declared.shape.Shape.TheVariants as shape;
-ghost use Rattle.type_terms.specs.Terms.{State, nodes_of, notes_of, node_at, parts, Each, IsLink, IsVariable, IsRest, LinksTo, StandsIn, unlinked};
-ghost use Rattle.type_terms.specs.Solutions.{Assignment, Fits, Solves, IsNoNewRest, AddsNoRest, with_type};
-ghost use Rattle.type_terms.specs.Depth.{AreNotesBelow, IsBelow, IsSound, doubled, sum_of, weight};
+ghost use Rattle.type_terms.specs.Terms.{State, nodes_of, notes_of, node_at, with_term, with_node, with_note, parts, Each, IsLink, IsVariable, IsRest, LinksTo, StandsIn, unlinked};
+ghost use Rattle.type_terms.specs.Solutions.{Assignment, Fits, Solves, IsNoNewRest, AddsNoRest, IsSolvable, Always, KeepsThose, MayHave};
+ghost use Rattle.type_terms.specs.Depth.{AreNotesBelow, IsBelow, IsSound, IsStored, doubled, sum_of, weight};
 
 use crate::TermId;
 use crate::change::Change;
@@ -73,9 +73,11 @@ impl Store {
     /// a further one finds no memory.
     pub fn fresh(&mut self, flag: Flag) -> Result<TermId, NoMemory>
         ensures place { IfOk result (λ at. at ≡ length (nodes_of self.old)) }
-        ensures state { OnOk result (self.new ≡ record { nodes = nodes_of self.old ++ End (shape.Variable flag) ∷ []; notes = notes_of self.old } ∷ self.old) }
-        ensures solutions { IfOk result (λ at. (s : Assignment) → Solves (nodes_of self.new) s ↔ (Solves (nodes_of self.old) s × HasFlag flag (s at))) }
-        ensures extends { IfOk result (λ at. (s : Assignment) (type : Ground) → Solves (nodes_of self.old) s → HasFlag flag type → InOrder type → Solves (nodes_of self.new) (with_type s at type)) }
+        ensures state { OnOk result (self.new ≡ with_term (shape.Variable flag) self.old) }
+        ensures solutions { IfOk result (λ at.
+            KeepsThose (nodes_of self.old) (nodes_of self.new) (λ s. HasFlag flag (s at))) }
+        ensures extends { IfOk result (λ at.
+            MayHave (nodes_of self.old) (nodes_of self.new) at (λ s type. HasFlag flag type)) }
         ensures refused { OnErr result (self.new ≡ self.old) }
     {
         self.make(Shape::Variable { flag })
@@ -87,9 +89,11 @@ impl Store {
     pub fn make(&mut self, shape: Shape) -> Result<TermId, NoMemory>
         requires { Each (IsBelow (length (nodes_of self.old))) (parts shape) }
         ensures place { IfOk result (λ at. at ≡ length (nodes_of self.old)) }
-        ensures state { OnOk result (self.new ≡ record { nodes = nodes_of self.old ++ End shape ∷ []; notes = notes_of self.old } ∷ self.old) }
-        ensures solutions { IfOk result (λ at. AddsNoRest (nodes_of self.old) shape → (s : Assignment) → Solves (nodes_of self.new) s ↔ (Solves (nodes_of self.old) s × Fits ⊥ s (s at) shape)) }
-        ensures extends { IfOk result (λ at. AddsNoRest (nodes_of self.old) shape → (s : Assignment) (type : Ground) → Solves (nodes_of self.old) s → Fits ⊥ s type shape → InOrder type → Solves (nodes_of self.new) (with_type s at type)) }
+        ensures state { OnOk result (self.new ≡ with_term shape self.old) }
+        ensures solutions { IfOk result (λ at. AddsNoRest (nodes_of self.old) shape
+            → KeepsThose (nodes_of self.old) (nodes_of self.new) (λ s. Fits ⊥ s (s at) shape)) }
+        ensures extends { IfOk result (λ at. AddsNoRest (nodes_of self.old) shape
+            → MayHave (nodes_of self.old) (nodes_of self.new) at (λ s type. Fits ⊥ s type shape)) }
         ensures refused { OnErr result (self.new ≡ self.old) }
     {
         self.add(shape)
@@ -98,11 +102,13 @@ impl Store {
     /// What the term is: the shape at the end of its links, whose parts stand in the store.
     pub fn shape(&self, at: TermId) -> &Shape
         requires { at < length (nodes_of self.now) }
-        ensures end { (end : ℕ) × LinksTo (nodes_of self.now) end at × (node_at (nodes_of self.now) end ≡ End result.now) }
-        ensures own { (IsLink (node_at (nodes_of self.now) at) → ⊥) → node_at (nodes_of self.now) at ≡ End result.now }
+        ensures end { (end : ℕ) × LinksTo (nodes_of self.now) end at
+            × (node_at (nodes_of self.now) end ≡ End result.now) }
+        ensures own { (IsLink (node_at (nodes_of self.now) at) → ⊥)
+            → node_at (nodes_of self.now) at ≡ End result.now }
         ensures inside { Each (IsBelow (length (nodes_of self.now))) (parts result.now) }
         ensures lighter { sum_of (weight self.now) (parts result.now) < weight self.now at }
-        ensures sound { IsSound (nodes_of self.now) (doubled (length self.now)) }
+        ensures sound { IsStored self.now }
     {
         match self.node(self.find(at)) {
             Node::End(shape) => shape,
@@ -116,9 +122,9 @@ impl Store {
         ensures leads { LinksTo (nodes_of self.now) result at }
         ensures end { IsLink (node_at (nodes_of self.now) result) → ⊥ }
         ensures inside { result < length (nodes_of self.now) }
-        ensures same { (s : Assignment) → Solves (nodes_of self.now) s → s at ≡ s result }
+        ensures same { Always (nodes_of self.now) (λ s. s at ≡ s result) }
         ensures lighter { weight self.now result ≤ weight self.now at }
-        ensures sound { IsSound (nodes_of self.now) (doubled (length self.now)) }
+        ensures sound { IsStored self.now }
     {
         let mut end = at;
         while let Node::Link(to) = self.node(end) {
@@ -131,8 +137,9 @@ impl Store {
     pub fn narrow(&mut self, at: TermId, flag: Flag) -> Result<(), NoMemory>
         requires inside { at < length (nodes_of self.old) }
         requires variable { IsVariable (node_at (nodes_of self.old) at) }
-        ensures state { OnOk result ((had : Flag) → node_at (nodes_of self.old) at ≡ End (shape.Variable had) → self.new ≡ record { nodes = slice_set (nodes_of self.old) at (End (shape.Variable (joined had flag))); notes = notes_of self.old } ∷ self.old) }
-        ensures solutions { OnOk result ((s : Assignment) → Solves (nodes_of self.new) s ↔ (Solves (nodes_of self.old) s × HasFlag flag (s at))) }
+        ensures state { OnOk result ((had : Flag) → node_at (nodes_of self.old) at ≡ End (shape.Variable had)
+            → self.new ≡ with_node at (End (shape.Variable (joined had flag))) self.old) }
+        ensures solutions { OnOk result (KeepsThose (nodes_of self.old) (nodes_of self.new) (λ s. HasFlag flag (s at))) }
         ensures refused { OnErr result (self.new ≡ self.old) }
     {
         let had = self.flag(at);
@@ -148,11 +155,12 @@ impl Store {
         requires target { to < length (nodes_of self.old) }
         requires variable { IsVariable (node_at (nodes_of self.old) at) }
         requires apart { StandsIn (nodes_of self.old) at to → ⊥ }
-        requires flags { (s : Assignment) (had : Flag) → Solves (nodes_of self.old) s → node_at (nodes_of self.old) at ≡ End (shape.Variable had) → HasFlag had (s to) }
+        requires flags { (s : Assignment) (had : Flag) → Solves (nodes_of self.old) s
+            → node_at (nodes_of self.old) at ≡ End (shape.Variable had) → HasFlag had (s to) }
         requires rest { IsRest (nodes_of self.old) at → IsNoNewRest (nodes_of self.old) to }
-        requires solvable { (s : Assignment) × Solves (nodes_of self.old) s }
-        ensures state { OnOk result (self.new ≡ record { nodes = slice_set (nodes_of self.old) at (Link to); notes = notes_of self.old } ∷ self.old) }
-        ensures solutions { OnOk result ((s : Assignment) → Solves (nodes_of self.new) s ↔ (Solves (nodes_of self.old) s × (s at ≡ s to))) }
+        requires solvable { IsSolvable (nodes_of self.old) }
+        ensures state { OnOk result (self.new ≡ with_node at (Link to) self.old) }
+        ensures solutions { OnOk result (KeepsThose (nodes_of self.old) (nodes_of self.new) (λ s. s at ≡ s to)) }
         ensures fewer { OnOk result (unlinked (nodes_of self.new) + 1 ≡ unlinked (nodes_of self.old)) }
         ensures refused { OnErr result (self.new ≡ self.old) }
     {
@@ -164,7 +172,7 @@ impl Store {
     pub fn sort_below(&mut self, a: TermId, b: TermId) -> Result<(), NoMemory>
         requires below { a < length (nodes_of self.old) }
         requires above { b < length (nodes_of self.old) }
-        ensures state { OnOk result (self.new ≡ record { nodes = nodes_of self.old; notes = notes_of self.old ++ (a, b) ∷ [] } ∷ self.old) }
+        ensures state { OnOk result (self.new ≡ with_note a b self.old) }
         ensures refused { OnErr result (self.new ≡ self.old) }
     {
         self.trail.push(Change::Noted)?;
@@ -187,16 +195,22 @@ impl Store {
 
     /// How many terms the store has.
     pub fn terms(&self) -> usize
-        ensures count { result ≡ length (nodes_of self.now) }
-        ensures sound { IsSound (nodes_of self.now) (doubled (length self.now)) }
+        ensures { result ≡ length (nodes_of self.now) }
     {
         self.nodes.len()
+    }
+
+    /// Parts stand in the store, and nothing stands below itself. It does nothing: callers learn what each store keeps.
+    pub fn stays_sound(&self)
+        ensures { IsStored self.now }
+    {
+        let _nodes = &self.nodes;
     }
 
     // How many changes stand.
     fn changes(&self) -> usize
         ensures count { length self.now ≡ result + 1 }
-        ensures sound { IsSound (nodes_of self.now) (doubled (length self.now)) }
+        ensures sound { IsStored self.now }
     {
         self.trail.len()
     }
@@ -204,7 +218,7 @@ impl Store {
     fn node(&self, at: TermId) -> &Node
         requires { at < length (nodes_of self.now) }
         ensures node { result.now ≡ node_at (nodes_of self.now) at }
-        ensures sound { IsSound (nodes_of self.now) (doubled (length self.now)) }
+        ensures sound { IsStored self.now }
     {
         &self.nodes[at as usize]
     }
@@ -214,7 +228,7 @@ impl Store {
         requires inside { at < length (nodes_of self.now) }
         requires variable { IsVariable (node_at (nodes_of self.now) at) }
         ensures flag { node_at (nodes_of self.now) at ≡ End (shape.Variable result) }
-        ensures sound { IsSound (nodes_of self.now) (doubled (length self.now)) }
+        ensures sound { IsStored self.now }
     {
         match self.node(at) {
             Node::End(Shape::Variable { flag }) => *flag,
@@ -226,7 +240,7 @@ impl Store {
     fn add(&mut self, shape: Shape) -> Result<TermId, NoMemory>
         requires { Each (IsBelow (length (nodes_of self.old))) (parts shape) }
         ensures place { IfOk result (λ at. at ≡ length (nodes_of self.old)) }
-        ensures state { OnOk result (self.new ≡ record { nodes = nodes_of self.old ++ End shape ∷ []; notes = notes_of self.old } ∷ self.old) }
+        ensures state { OnOk result (self.new ≡ with_term shape self.old) }
         ensures sound { IsSound (nodes_of self.old) (doubled (length self.old)) }
         ensures refused { OnErr result (self.new ≡ self.old) }
     {
@@ -249,7 +263,7 @@ impl Store {
         requires inside { at < length (nodes_of self.old) }
         requires variable { node_at (nodes_of self.old) at ≡ End (shape.Variable flag) }
         requires sound { IsSound (slice_set (nodes_of self.old) at node) (doubled (suc (length self.old))) }
-        ensures state { OnOk result (self.new ≡ record { nodes = slice_set (nodes_of self.old) at node; notes = notes_of self.old } ∷ self.old) }
+        ensures state { OnOk result (self.new ≡ with_node at node self.old) }
         ensures refused { OnErr result (self.new ≡ self.old) }
     {
         self.trail.push(Change::WasVariable { at, flag })?;

@@ -1,10 +1,10 @@
 //! Reads two numbers from standard input, unifies a closed row of as many labels as the first with itself in the
-//! other order, then links as many variables as the second one after another. `bench/types.sh` times it.
+//! other order, then links as many variables as the second one after another. `bench/bench.py types` times it.
 #![tactic(auto)]
 
 ghost use Rattle.std.specs.Prelude.{IfOk, OnOk};
-ghost use Rattle.type_solve.specs.Kept.{Keeps};
-ghost use Rattle.type_solve.specs.Rests.{RestsApart, IsType};
+ghost use Rattle.type_unify.specs.Kept.{Keeps};
+ghost use Rattle.type_unify.specs.Rests.{IsType};
 ghost use Rattle.type_terms.specs.Terms.{nodes_of};
 
 use anyhow::{Context, Result};
@@ -12,21 +12,20 @@ use elm_base::{Halt, Name, NoMemory};
 use sqlite_items::Items;
 use std::alloc::Global;
 use std::io::Read;
-use type_solve::{NoSolution, Tail, make_row, make_type, unify};
-use type_terms::{Flag, Shape, Store, TermId};
+use type_terms::{Flag, NoSolution, Shape, TermId};
+use type_unify::{Tail, Types};
 
 /// A closed row of as many fields of this type, labelled by numbers that rise or fall.
 fn row(
     alloc: Global,
-    store: &mut Store,
+    types: &mut Types,
     element: TermId,
     labels: u32,
     falling: bool,
 ) -> Result<TermId, NoMemory>
-    requires apart { RestsApart (nodes_of store.old) }
-    requires element { IsType (nodes_of store.old) element }
-    ensures keeps { OnOk result (Keeps (nodes_of store.old) (nodes_of store.new)) }
-    ensures is_type { IfOk result (λ made. IsType (nodes_of store.new) made) }
+    requires { IsType (nodes_of types.old) element }
+    ensures keeps { OnOk result (Keeps (nodes_of types.old) (nodes_of types.new)) }
+    ensures is_type { IfOk result (IsType (nodes_of types.new)) }
 {
     let mut fields = Items::new(alloc);
     for number in 0..labels {
@@ -34,32 +33,32 @@ fn row(
         let text = format!(in alloc; "{label}")?;
         fields.push((Name::from_vec(text.into_bytes()), element))?;
     }
-    make_row(store, fields, Tail::Closed)
+    types.make_row(fields, Tail::Closed)
 }
 
 /// Whether a row meets itself in the other order.
 fn rows_meet(alloc: Global, labels: u32) -> Result<bool, NoMemory> {
-    let mut store = Store::new(alloc)?;
-    let element = make_type(&mut store, Shape::Variable { flag: Flag::Plain })?;
-    let rising = row(alloc, &mut store, element, labels, false)?;
-    let falling = row(alloc, &mut store, element, labels, true)?;
-    meets(unify(alloc, &mut store, rising, falling))
+    let mut types = Types::new(alloc)?;
+    let element = types.make_type(Shape::Variable { flag: Flag::Plain })?;
+    let rising = row(alloc, &mut types, element, labels, false)?;
+    let falling = row(alloc, &mut types, element, labels, true)?;
+    meets(types.unify(alloc, rising, falling))
 }
 
 /// Whether the first and the last of as many linked variables meet.
 fn chain_meets(alloc: Global, links: u32) -> Result<bool, NoMemory> {
-    let mut store = Store::new(alloc)?;
-    let first = make_type(&mut store, Shape::Variable { flag: Flag::Plain })?;
+    let mut types = Types::new(alloc)?;
+    let first = types.make_type(Shape::Variable { flag: Flag::Plain })?;
     let mut last = first;
     for _ in 0..links {
-        let next = make_type(&mut store, Shape::Variable { flag: Flag::Plain })?;
-        match unify(alloc, &mut store, last, next) {
+        let next = types.make_type(Shape::Variable { flag: Flag::Plain })?;
+        match types.unify(alloc, last, next) {
             Ok(()) => last = next,
             Err(Halt::Because(_)) => return Ok(false),
             Err(Halt::NoMemory) => return Err(NoMemory),
         }
     }
-    meets(unify(alloc, &mut store, first, last))
+    meets(types.unify(alloc, first, last))
 }
 
 fn meets(answer: Result<(), Halt<NoSolution>>) -> Result<bool, NoMemory> {

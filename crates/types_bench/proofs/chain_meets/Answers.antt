@@ -5,7 +5,6 @@ unify-requires-clause-first c = c.in_ok-next.ensures.keeps.types _ c.loop.invari
 
 pub loop-preserved : goal.loop-preserved
 loop-preserved c = record {
-  apart = c.in-Ok.ensures.unified.apart;
   first = c.in-Ok.ensures.unified.types _ (c.in_ok-next.ensures.keeps.types _ c.loop.invariant.first);
   last = c.in-Ok.ensures.unified.types _ c.in_ok-next.ensures.is_type;
 }

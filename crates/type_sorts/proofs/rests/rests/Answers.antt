@@ -22,5 +22,5 @@ loop-at-preserved c = elim c.match-rest_of.branch [
 
 pub returns-clause-marks : goal.returns-clause-marks
 returns-clause-marks c =
-    let n : c.loop-at.at ≡ length (nodes_of c.args.store.now) = omega (arith, c.loop-at-test.false, c.loop-at.auto.at-end, c.terms-terms.ensures.count) in
+    let n : c.loop-at.at ≡ length (nodes_of c.args.store.now) = omega (arith, c.loop-at-test.false, c.loop-at.auto.at-end, c.terms-terms.ensures) in
     marked-all (nodes_of c.args.store.now) c.loop-at.marks.items (subst (λ (k : ℕ). MarkedBelow (nodes_of c.args.store.now) k c.loop-at.marks.items) n c.loop-at.invariant)

@@ -1,0 +1,10 @@
+use Rattle.std.proofs.Common.{refl}
+use Rattle.std.specs.Str.{chars}
+use Rattle.std.specs.Fmt.{digits}
+use lib.Utf8.{encode}
+use Rattle.elm_meaning.specs.Evaluation.{to_depth, evaluate, eval}
+use Rattle.elm_meaning.proofs.pattern_cases.parts_fit_their_patterns.Goals as goal
+
+pub returns : goal.returns
+unfolding chars digits encode to_depth evaluate eval
+returns c = record { made = refl; other = refl; fewer = refl; more = refl; argument = refl; alone = refl; tuple = refl; part = refl; parts = refl; kind = refl }

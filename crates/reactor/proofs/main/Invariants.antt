@@ -1,5 +1,0 @@
-use Rattle.reactor.proofs.main.Given as goal
-
--- the ledger of the steps is the blank one
-abbrev pub ghosts-run : goal.ghosts-run
-ghosts-run a = record { name = a.blank.name; parts = a.blank.parts }

@@ -1,6 +1,0 @@
-use Rattle.std.proofs.Common.{drop}
-use Rattle.type_solve.proofs.Match.{Waits}
-use Rattle.type_solve.proofs.fields.match_fields.Given as goal
-
-abbrev pub invariant-loop-field : goal.invariant-loop-field
-invariant-loop-field l = Waits l.fn.waiting l.waiting l.left l.fn.right l.extra (drop l.field-index l.left) l.right

@@ -1,5 +1,0 @@
-use Rattle.type_solve.proofs.Building.{pushed_type}
-use Rattle.type_solve.proofs.tests.push_type.Goals as goal
-
-pub returns-clause-types : goal.returns-clause-types
-returns-clause-types c = pushed_type _ _ _ _ _ c.in_ok-made.ensures.keeps c.requires.types c.in_ok-made.ensures.is_type c.in_ok-push.ensures.ok

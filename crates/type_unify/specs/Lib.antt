@@ -1,0 +1,11 @@
+pub mod Bound
+pub mod Flagged
+pub mod Grown
+pub mod Heads
+pub mod Kept
+pub mod Matching
+pub mod Refused
+pub mod Rests
+pub mod Steps
+pub mod Taken
+pub mod Unifying
