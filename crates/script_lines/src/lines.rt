@@ -61,7 +61,7 @@ impl Lines {
         give_back(&mut self.bytes, self.handed_out);
         self.handed_out = 0;
         append_short(self.alloc, &mut self.bytes, piece)?;
-        self.is_open = self.is_open && has_no_newline(piece);
+        self.is_open = stays_open(self.is_open, piece);
         Ok(())
     }
 
@@ -101,10 +101,11 @@ impl Lines {
     }
 }
 
-fn has_no_newline(piece: &[u8]) -> bool
-    ensures { IsTrue result → HasNoNewline piece.now }
+/// Whether no newline is known to stand in what was left before, and none does in the piece.
+fn stays_open(is_open: bool, piece: &[u8]) -> bool
+    ensures { IsTrue result → (IsTrue is_open × HasNoNewline piece.now) }
 {
-    cut(piece, b'\n').is_none()
+    is_open && cut(piece, b'\n').is_none()
 }
 
 /// The bytes behind the first ones, as many as were handed out.
