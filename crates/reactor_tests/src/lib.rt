@@ -3,6 +3,4 @@
 #![tactic(auto)]
 
 #[cfg(test)]
-mod limit;
-#[cfg(test)]
 mod tests;

@@ -39,21 +39,37 @@ fn push_line(alloc: Global, line: &Line, out: &mut String) -> Result<(), NoMemor
     Ok(())
 }
 
-/// What the lines of a script say that is fed in pieces of this size, each behind a semicolon.
-pub fn readings(alloc: Global, script: &[u8], size: usize) -> Result<String, Fail>
-    requires { 0 < size }
-{
-    let mut lines = Lines::new(alloc)?;
-    let mut out = String::new(alloc);
-    for piece in script.chunks(size) {
-        lines.feed(piece)?;
-        while let Some(line) = lines.next()? {
-            push_line(alloc, &line, &mut out)?;
+// What each line says that has its newline.
+fn push_whole_lines(alloc: Global, lines: &mut Lines, out: &mut String) -> Result<(), NoMemory> {
+    for _ in 0..u64::MAX {
+        match lines.next()? {
+            Some(line) => push_line(alloc, &line, out)?,
+            None => return Ok(()),
         }
     }
-    if let Some(line) = lines.finish()? {
-        push_line(alloc, &line, &mut out)?;
+    Ok(())
+}
+
+// What the last line says. No whole line is left before it; one that were would be told in its place.
+fn push_last_line(alloc: Global, lines: &mut Lines, out: &mut String) -> Result<(), NoMemory> {
+    match lines.next()? {
+        Some(line) => push_line(alloc, &line, out),
+        None => match lines.finish()? {
+            Some(line) => push_line(alloc, &line, out),
+            None => Ok(()),
+        },
     }
+}
+
+/// What the lines of a script say that is fed in pieces of this size, each behind a semicolon.
+pub fn readings(alloc: Global, script: &[u8], size: usize) -> Result<String, Fail> {
+    let mut lines = Lines::new(alloc)?;
+    let mut out = String::new(alloc);
+    for piece in script.chunks(size.max(1)) {
+        lines.feed(piece)?;
+        push_whole_lines(alloc, &mut lines, &mut out)?;
+    }
+    push_last_line(alloc, &mut lines, &mut out)?;
     Ok(out)
 }
 
@@ -92,7 +108,7 @@ fn lines_in_pieces(rt: HostRuntime) -> Result<(), Fail> {
 // A line of so many bytes in all: a front, then letters, then a back.
 fn long_line(alloc: Global, front: &str, count: usize, back: &str) -> Result<Vec<u8>, NoMemory> {
     let mut line = front.as_bytes().to_vec(alloc)?;
-    while line.len() < count {
+    for _ in line.len()..count {
         line.push(b'x')?;
     }
     line.extend_from_slice(back.as_bytes())?;
