@@ -32,7 +32,7 @@ impl Counter {
 
     // Whether the present step finds no memory.
     fn fails(&self) -> bool {
-        self.count == u64::MAX || (self.failing != 0 && self.asked % self.failing == 0)
+        self.failing != 0 && self.asked % self.failing == 0
     }
 }
 
@@ -45,26 +45,26 @@ impl Replay for Counter {
 
     type Made = u64;
 
-    ghost content = { λ _. () };
+    ghost content = { λ _. tt };
 
     ghost made = { λ c. c.failing };
 
     ghost fits = { λ _ _. ⊤ };
 
-    ghost list = { λ c. replicate c.count () };
+    ghost list = { λ c. replicate c.count tt };
 
     ghost taken = { λ c. c.asked };
 
     ghost good = { λ _ _. ⊤ };
 
-    ghost list_of = { λ _ m. replicate m.count () };
+    ghost list_of = { λ _ m. replicate m.count tt };
 
     ghost older = { λ _ _. ⊤ };
 
     fn step<L: Ledger>(&mut self, _event: &u32, steps: &mut Steps<L>) -> Result<(), NoMemory> {
         steps.tick();
         self.asked = self.asked.saturating_add(1);
-        if self.fails() {
+        if self.count == u64::MAX || self.fails() {
             return Err(NoMemory);
         }
         self.count += 1;

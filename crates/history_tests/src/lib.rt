@@ -2,7 +2,6 @@
 #![tactic(auto)]
 
 mod counter;
-
 #[cfg(test)]
 mod tests;
 

@@ -1,12 +1,11 @@
 -- The kept marks and the mark of the end, while events and the state change.
-use Rattle.std.proofs.Common.{◌≡◌, ℕ, ◌+◌, ◌*◌, ◌/◌, ◌<◌, ◌≤◌, suc, zero, List, [], ◌∷◌, ◌++◌, length, take, map, get_or, ◌⊎◌, inl, inr, refl, sym, ap, ◌∙◌, arith, Option, Some, None, subst, unwrap_or, slice_get, min, length-take}
-use Rattle.std.proofs.lemmas.List.{length-map, take-map, take-take, take_all, take-append-le, map-append}
+use Rattle.std.proofs.Common.{◌≡◌, ℕ, ◌+◌, ◌*◌, ◌/◌, ◌<◌, ◌≤◌, suc, zero, List, [], ◌∷◌, ◌++◌, length, take, get_or, ◌⊎◌, inl, inr, refl, sym, ap, ◌∙◌, arith, Option, Some, None, subst, unwrap_or, slice_get, min, length-take}
+use Rattle.std.proofs.lemmas.List.{take-take, take_all, take-append-le}
 use Rattle.std.proofs.lemmas.Option.{slice_get_within, slice_get_read}
 use Rattle.std.proofs.Math.Nat.{div-mul-le_self, lt-div-mul-add}
 use Rattle.std.proofs.lemmas.Nat.{mul-le, div-mul-add, div_below}
 use Rattle.std.proofs.lemmas.Bool.{cases_lt}
 use Rattle.std.proofs.lemmas.Grind.{common_steps}
-use Rattle.snapshots.specs.Prefixes.{IsPrefix}
 use Rattle.snapshots.specs.Past.{StandsFor, KeepsPrefixes}
 use Rattle.snapshots.specs.Kept.{AreKept, AllFit, IsEnd}
 

@@ -96,12 +96,7 @@ pub fn keep_mark<R: Replay>(
 }
 
 // Gives back what came after the last kept mark, where that is a mark of the end of the events.
-pub fn cut_to_last<R: Replay>(
-    replay: &mut R,
-    events: &[R::Event],
-    every: usize,
-    kept: &[R::Mark],
-)
+pub fn cut_to_last<R: Replay>(replay: &mut R, events: &[R::Event], every: usize, kept: &[R::Mark])
     requires spaced { 0 < every }
     requires at_end { R.list replay.old ≡ map R.content events.now }
     requires kept { AreKept (StandsFor (R.good replay.old) (R.list_of replay.old)) R.older

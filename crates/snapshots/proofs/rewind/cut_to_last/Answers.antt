@@ -1,4 +1,4 @@
-use Rattle.std.proofs.Common.{◌≡◌, ◌*◌, ◌/◌, ◌+◌, ◌<◌, ◌≤◌, length, map, take, refl, sym, ◌∙◌, arith, slice_get, Some}
+use Rattle.std.proofs.Common.{◌*◌, ◌/◌, ◌+◌, ◌<◌, ◌≤◌, length, map, refl, sym, ◌∙◌, arith}
 use Rattle.std.proofs.lemmas.List.{length-map, take_all}
 use Rattle.std.proofs.lemmas.Option.{slice_get_read}
 use Rattle.snapshots.proofs.Marks.{kept_after_cut}

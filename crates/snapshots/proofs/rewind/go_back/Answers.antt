@@ -1,6 +1,6 @@
-use Rattle.std.proofs.Common.{◌≡◌, ◌*◌, ◌/◌, ◌<◌, ℕ, List, length, take, map, refl, sym, ap, subst, ◌∙◌, arith, slice_get, Some}
+use Rattle.std.proofs.Common.{◌<◌, length, map, ◌∙◌}
 use Rattle.std.proofs.lemmas.List.{length-map}
-use Rattle.snapshots.specs.Past.{StandsFor, KeepsPrefixes}
+use Rattle.snapshots.specs.Past.{StandsFor}
 use Rattle.snapshots.proofs.Prefixes.{keeps_played, back_played, keeps_older}
 use Rattle.snapshots.proofs.Marks.{read_kept}
 use Rattle.snapshots.proofs.rewind.go_back.Goals as goal

@@ -1,7 +1,6 @@
-use Rattle.std.proofs.Common.{◌≡◌, ◌/◌, ◌∙◌, ℕ, length, map, sym, subst, arith, slice_get, Some, List}
+use Rattle.std.proofs.Common.{◌≡◌, ◌/◌, ◌∙◌, length, map, subst, arith, List}
 use Rattle.std.proofs.lemmas.List.{length-map}
 use Rattle.snapshots.specs.Past.{StandsFor}
-use Rattle.snapshots.specs.Kept.{AreKept}
 use Rattle.snapshots.proofs.Prefixes.{keeps_all, keeps_each}
 use Rattle.snapshots.proofs.Marks.{kept_stays, kept_added}
 use Rattle.snapshots.proofs.rewind.keep_mark.Goals as goal

@@ -1,4 +1,4 @@
-use Rattle.std.proofs.Common.{◌≡◌, ◌<◌, length, map, take, sym, subst, ◌∙◌, arith, Some, None, Option}
+use Rattle.std.proofs.Common.{◌≡◌, length, map, sym, subst, ◌∙◌, arith, Some, Option}
 use Rattle.std.proofs.lemmas.List.{length-map, take_all}
 use Rattle.snapshots.specs.Past.{StandsFor}
 use Rattle.snapshots.specs.Kept.{IsEnd}
