@@ -1,2 +1,3 @@
-pub mod Prefixes
 pub mod Marks
+pub mod Prefixes
+mod Worked

@@ -88,7 +88,8 @@ pub fn keep_mark<R: Replay>(
     ensures made { R.made replay.new ≡ R.made replay.old }
     ensures taken { R.taken replay.new ≡ R.taken replay.old }
 {
-    if events.len() / every == kept.len() {
+    let due = events.len() / every == kept.len();
+    if due {
         let mark = replay.mark()?;
         kept.push(mark)?;
     }

@@ -32,7 +32,7 @@ returns-in_ok-push-clause-kept g c =
     let after = c.mark.new.self in
     let mark = c.in_ok-mark.mark in
     let count : c.len.result ≡ length c.args.kept.now.items = omega (arith, c.len.ensures) in
-    let due : length all / c.args.every ≡ length c.args.kept.now.items = rw (length-map c.args.events.now r.content) (c.if-events-every.true ∙ count) in
+    let due : length all / c.args.every ≡ length c.args.kept.now.items = rw (length-map c.args.events.now r.content) (c.if-due.true ∙ count) in
     let given : StandsFor (r.good after) (r.list_of after) mark all =
     subst (λ (es : List g.row.R-Content.Denot). StandsFor (r.good after) (r.list_of after) mark es) (c.in_ok-mark.ensures.list ∙ c.requires.at_end) c.in_ok-mark.ensures.given in
     rw c.in_ok-push.ensures.items (kept_added (StandsFor (r.good before) (r.list_of before)) (StandsFor (r.good after) (r.list_of after)) r.older all c.args.every c.args.kept.now.items mark
