@@ -3,7 +3,7 @@ use Rattle.std.proofs.Common.{◌≡◌, ℕ, ◌+◌, ◌*◌, ◌/◌, ◌<◌
 use Rattle.std.proofs.lemmas.List.{take-take, take_all, take-append-le}
 use Rattle.std.proofs.lemmas.Option.{slice_get_within, slice_get_read}
 use Rattle.std.proofs.Math.Nat.{div-mul-le_self, lt-div-mul-add}
-use Rattle.std.proofs.lemmas.Nat.{mul-le, div-mul-add, div_below}
+use Rattle.std.proofs.lemmas.Nat.{mul-le, div_below}
 use Rattle.std.proofs.lemmas.Bool.{cases_lt}
 use Rattle.std.proofs.lemmas.Grind.{common_steps}
 use Rattle.snapshots.specs.Past.{StandsFor, KeepsPrefixes}
@@ -41,15 +41,6 @@ read_kept stands older events every kept cursor mark spaced within are here =
     let room : cursor < length kept * every = omega (arith, within, are.enough) in
     let inside : cursor / every < length kept = div_below cursor every (length kept) spaced room in
     are.own (cursor / every) mark (slice_get_read kept (length kept) (cursor / every) mark refl inside here)
-
--- no mark at all is kept of no events
-pub none_kept : {M C : Type 0} (stands : M → List C → Type 0) (older : M → M → Type 0) (every : ℕ) → AreKept stands older [] every []
-none_kept stands older every = record {
-  enough = omega arith;
-  within = λ k less. omega arith;
-  own = λ k m here. cc;
-  ordered = λ j k a b less first second. cc;
-}
 
 -- an element of a list with one more at the end
 pub slice_get-last : {X : Type 0} (xs : List X) (y x : X) (k : ℕ) → slice_get (xs ++ y ∷ []) k ≡ Some x →
@@ -110,24 +101,6 @@ kept_added {M} {C} before after older events every kept mark spaced are due keep
     ordered j k a b less (inl first) (inr last) = subst (λ (x : M). older a x) (sym last.1) (newest j a first)
     ordered j k a b less (inr last) (inl second) = let inside : k < length kept = slice_get_within kept k b second in absurd (omega (arith, last.0, inside, less))
     ordered j k a b less (inr last) (inr behind) = absurd (omega (arith, last.0, behind.0, less))
-
--- behind a mark at the end there is room for one event more, and where none was due
-pub room_added : {M : Type 0} (n every : ℕ) (kept : List M) (mark : M) → 0 < every → n / every ≡ length kept → n < length (kept ++ mark ∷ []) * every
-room_added n every kept mark spaced due =
-    let more : length (kept ++ mark ∷ []) ≡ length kept + 1 = grind (arith, common_steps) in
-    let above : n < n / every * every + every = lt-div-mul-add spaced in
-    let above_kept : n < length kept * every + every = subst (λ (q : ℕ). n < q * every + every) due above in
-    rw more (grind (arith, above_kept))
-
-div-mul_self : (k every : ℕ) → 0 < every → (k * every) / every ≡ k
-div-mul_self k every spaced = let e : k * every + 0 ≡ k * every = omega arith in rw e at (div-mul-add k every 0 spaced)
-
-pub room_left : (n every k : ℕ) → 0 < every → n ≤ k * every → (n / every ≡ k → ⊥) → n < k * every
-room_left n every k spaced most apart = go (cases_lt n (k * every))
-  where
-    go : (n < k * every) ⊎ (k * every ≤ n) → n < k * every
-    go (inl less) = less
-    go (inr less) = absurd (apart (let e : n ≡ k * every = omega arith in rw e (div-mul_self k every spaced)))
 
 -- one event more
 pub kept_grown : {M C : Type 0} (before after : M → List C → Type 0) (older : M → M → Type 0) (events : List C) (every : ℕ) (kept : List M) (event : C) →
