@@ -9,6 +9,10 @@ use Rattle.grammar.specs.Terminals.{starts}
 use Rattle.grammar.specs.Reader.{Outcome, Parser, and_then, choose, links, with_front}
 use Rattle.grammar.proofs.Turns.{Takes}
 
+pub with_none : {A : Type 0} (r : Outcome (List A)) → r ≡ with_front [] r
+with_none (Some x) = refl
+with_none None = refl
+
 module _ {A B : Type 0} (between last : List Terminal) (o : Parser A) (p q : Parser B) where
   -- what is read behind one that stands between, by whether the last form follows
   abbrev behind : ℕ → A → Bool → Parser (List (A × B))

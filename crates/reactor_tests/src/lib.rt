@@ -3,4 +3,6 @@
 #![tactic(auto)]
 
 #[cfg(test)]
+mod limit;
+#[cfg(test)]
 mod tests;

@@ -2,13 +2,13 @@ ghost use Rattle.std.specs.Prelude.{◌≡◌, ◌<◌, All, IfOk};
 
 use elm_base::{NoMemory, Steps};
 use reactor_engine::{Status, Words, reactor_run};
-use reactor_outside::{MemShelf, MemSink, MemSource};
+use reactor_outside::{MemShelf, MemSink, MemSource, Source};
 use std::alloc::{AllocError, Global};
 use std::marker::Brand;
 use std::sync::ledger::{Blank, Ledger};
 use std::test::Fail;
 
-const FIRST: &[u8] =
+pub const FIRST: &[u8] =
     b"import Graphics.Element exposing (..)\nport p : Signal Int\nmain = Signal.map show p\n";
 
 // Which calls of the outside fail, by their numbers from 1.
@@ -25,11 +25,11 @@ const NOTHING: Failing = Failing {
     calls: &[],
 };
 
-fn run_on<L: Ledger>(
+fn run_on<S: Source, L: Ledger>(
     alloc: Global,
     words: &Words,
     shelf: &mut MemShelf,
-    script: &mut MemSource,
+    script: &mut S,
     screen: &mut MemSink,
     blank: Blank,
 ) -> Status
@@ -41,14 +41,28 @@ fn run_on<L: Ledger>(
     reactor_run(alloc, words, shelf, script, screen, &mut steps)
 }
 
-fn run_counted(
+fn run_counted<S: Source>(
     alloc: Global,
     words: &Words,
     shelf: &mut MemShelf,
-    script: &mut MemSource,
+    script: &mut S,
     screen: &mut MemSink,
 ) -> Status {
-    run_on::<Brand>(alloc, words, shelf, script, screen, Blank::new(1))
+    run_on::<S, Brand>(alloc, words, shelf, script, screen, Blank::new(1))
+}
+
+// Runs `run first` on a shelf with this Main.elm and a script from this source; nothing fails outside.
+pub fn run_source<S: Source>(
+    alloc: Global,
+    main: &[u8],
+    source: &mut S,
+) -> Result<(Status, Vec<u8>), Fail> {
+    let words = words_of(alloc, &["run", "first"])?;
+    let mut shelf = MemShelf::new(alloc, Vec::new(alloc));
+    shelf.add("first/Main.elm", main)?;
+    let mut sink = MemSink::new(alloc, Vec::new(alloc));
+    let status = run_counted(alloc, &words, &mut shelf, source, &mut sink);
+    Ok((status, sink.bytes().to_vec(alloc)?))
 }
 
 fn words_of(alloc: Global, given: &[&str]) -> Result<Words, NoMemory> {
@@ -387,29 +401,5 @@ fn failures_of_texts(rt: HostRuntime) -> Result<(), Fail> {
     let (status, written) = run_first(rt.alloc(), b"x", b"", 4096, &screen)?;
     assert_eq!(rt; status, Status::WriteFault);
     assert!(rt; written.is_empty());
-    Ok(())
-}
-
-// A script of as many bytes as one may have is answered whole, and one of a byte more up to its last whole line before.
-#[test]
-fn a_script_that_is_too_long(rt: HostRuntime) -> Result<(), Fail> {
-    let alloc = rt.alloc();
-    let mut line = vec![in alloc; b'x'; 65_535]?;
-    line.push(b'\n')?;
-    for (total, wanted) in [
-        (1 << 30, Status::Done),
-        ((1 << 30) + 1, Status::ScriptTooLong),
-    ] {
-        let words = words_of(alloc, &["run", "first"])?;
-        let mut shelf = MemShelf::new(alloc, Vec::new(alloc));
-        shelf.add("first/Main.elm", FIRST)?;
-        let mut source = MemSource::repeating(line.to_vec(alloc)?, total, Vec::new(alloc));
-        let mut sink = MemSink::new(alloc, Vec::new(alloc));
-        let status = run_counted(alloc, &words, &mut shelf, &mut source, &mut sink);
-        assert_eq!(rt; status, wanted);
-        // 2^14 lines of 2^16 bytes, each answered by 20 bytes behind the first frame.
-        assert_eq!(rt; sink.bytes().len(), 16 + 20 * (1 << 14));
-        assert!(rt; sink.bytes().ends_with(b"refused Unsupported\n"));
-    }
     Ok(())
 }

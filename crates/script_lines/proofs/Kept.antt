@@ -1,12 +1,13 @@
 -- What is kept of a piece, line by line.
-use Rattle.std.proofs.Common.{◌≡◌, ◌<◌, ◌≤◌, ◌+◌, ◌-◌, ◌++◌, ◌∙◌, arith, ℕ, true, List, [], ◌∷◌, length, take, drop, sym, ap, refl, subst, append_assoc, Some, length-append}
+use Rattle.std.proofs.Common.{◌≡◌, ◌<◌, ◌≤◌, ◌+◌, ◌-◌, ◌++◌, ◌∙◌, arith, ℕ, Bool, true, false, List, [], ◌∷◌, length, take, drop, sym, ap, refl, subst, append_assoc, Some, length-append}
 use Rattle.std.proofs.lemmas.List.{append-nil, drop-drop, length-drop}
 use Rattle.script_lines.specs.Lines.{HasNoNewline, lines, shortened}
 use Rattle.script_lines.specs.Kept.{unfinished, shortened_within}
 use Rattle.script_lines.specs.Reading.{SaysTheSame, SaysFirst, readings, read_line}
 use Rattle.script_lines.specs.declared.line.Line.{Line}
 use Rattle.std.proofs.Math.Seq.{drop-append-add}
-use Rattle.script_lines.proofs.Shortening.{few_bytes, appended, shortened_again, says_the_same, readings_at, short_parts, within_at, within_open, within_most, unfinished_at, unfinished_open}
+use Rattle.script_lines.proofs.Cutting.{no_newline-take, no_newline-append}
+use Rattle.script_lines.proofs.Shortening.{shortened_open, few_bytes, appended, shortened_again, says_the_same, readings_at, short_parts, within_at, within_open, within_most, unfinished_at, unfinished_open}
 
 -- a line of the piece was kept
 pub more_kept : (room : ℕ) (line rest piece out next start : List ℕ) → next ≡ (out ++ take room line) ++ 10 ∷ [] → piece ≡ line ++ 10 ∷ rest → HasNoNewline line → out ++ shortened_within room piece ≡ start → next ++ shortened_within 65537 rest ≡ start
@@ -69,3 +70,14 @@ short_behind whole line rest is plain short = (short_parts line rest plain (ap s
 -- a line that is handed out stands within the bytes
 pub within_left : (bytes line rest : List ℕ) (at : ℕ) → at ≤ length bytes → drop at bytes ≡ line ++ 10 ∷ rest → at + (length line + 1) ≤ length bytes
 within_left bytes line rest at fits is = omega (arith, length-drop at bytes, ap length is, length-append line (10 ∷ rest))
+
+-- without a newline in a script and in the piece behind it there is none in what is kept
+pub no_newline_kept : (text piece now : List ℕ) → now ≡ shortened (text ++ piece) → HasNoNewline text → HasNoNewline piece → HasNoNewline now
+no_newline_kept text piece now is plain also =
+    let both = no_newline-append text piece plain also in
+    let P : List ℕ → Type 0 = λ t. HasNoNewline t in
+    subst P (sym (is ∙ shortened_open (text ++ piece) both)) (no_newline-take 65537 (text ++ piece) both)
+
+pub not_both : (test : Bool) → test ≡ true → test ≡ false → ⊥
+not_both true yes_it_is other = cc
+not_both false yes_it_is other = cc

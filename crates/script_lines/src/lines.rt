@@ -21,11 +21,13 @@ pub struct Lines {
     bytes: Vec<u8>,
     /// How many of the bytes were handed out.
     handed_out: usize,
+    /// No newline is known to stand in the others, so that a long line isn't searched again with each piece.
+    is_open: bool,
 }
 
 impl Model for Lines {
-    ghost use Rattle.std.specs.Prelude.{List, ℕ, ◌≡◌, ◌≤◌, drop, length};
-    ghost use Rattle.script_lines.specs.Lines.{shortened};
+    ghost use Rattle.std.specs.Prelude.{List, ℕ, ◌≡◌, ◌≤◌, IsTrue, drop, length};
+    ghost use Rattle.script_lines.specs.Lines.{HasNoNewline, shortened};
 
     ghost Value = { List ℕ };
 
@@ -33,7 +35,8 @@ impl Model for Lines {
 
     ghost invariant = { λ lines.
         (lines.handed_out ≤ length lines.bytes.items)
-        × (shortened (drop lines.handed_out lines.bytes.items) ≡ drop lines.handed_out lines.bytes.items) };
+        × (shortened (drop lines.handed_out lines.bytes.items) ≡ drop lines.handed_out lines.bytes.items)
+        × (IsTrue lines.is_open → HasNoNewline (drop lines.handed_out lines.bytes.items)) };
 }
 
 impl Lines {
@@ -45,6 +48,7 @@ impl Lines {
             alloc,
             bytes: Vec::new(alloc),
             handed_out: 0,
+            is_open: true,
         })
     }
 
@@ -56,7 +60,9 @@ impl Lines {
     {
         give_back(&mut self.bytes, self.handed_out);
         self.handed_out = 0;
-        append_short(self.alloc, &mut self.bytes, piece)
+        append_short(self.alloc, &mut self.bytes, piece)?;
+        self.is_open = stays_open(self.is_open, piece);
+        Ok(())
     }
 
     /// Hands out the next line that a newline ended, if there is one.
@@ -65,7 +71,11 @@ impl Lines {
         ensures says { IfOk result (λ found. SaysFirst self.old found self.new) }
         ensures kept { OnErr result (self.new ≡ self.old) }
     {
+        if self.is_open {
+            return Ok(None);
+        }
         let Some((line, _)) = cut(left_of(self.bytes.as_slice(), self.handed_out), b'\n') else {
+            self.is_open = true;
             return Ok(None);
         };
         let length = line.len();
@@ -89,6 +99,13 @@ impl Lines {
         self.handed_out = self.bytes.len();
         Ok(Some(found))
     }
+}
+
+/// Whether no newline is known to stand in what was left before, and none does in the piece.
+fn stays_open(is_open: bool, piece: &[u8]) -> bool
+    ensures { IsTrue result → (IsTrue is_open × HasNoNewline piece.now) }
+{
+    is_open && cut(piece, b'\n').is_none()
 }
 
 /// The bytes behind the first ones, as many as were handed out.

@@ -2,13 +2,12 @@ use Rattle.std.proofs.Common.{ℕ, [], ◌∷◌, ◌++◌, refl, sym}
 use Rattle.std.proofs.lemmas.Result.{err_from_is_err_and}
 use Rattle.elm_base.specs.declared.tree.Expr.{Expr}
 use Rattle.grammar.specs.Reader.{Parser, linked}
-use Rattle.grammar.proofs.Turns.{with_none}
 use Rattle.grammar.proofs.ListTurns.{shorter}
 use Rattle.expr_grammar.specs.ExprReader as m
 use Rattle.expr_grammar.specs.ExprReader.{links, operators_begin, last_forms_begin, operator}
 use Rattle.expr_grammar.proofs.Takes.{operator_takes, operand_takes}
 use Rattle.expr_parser.proofs.LinkParts.{apart_more, apart_ok, apart_err, read_ok, read_err}
-use Rattle.expr_parser.proofs.LinkTurns.{links_last, links_err_between, links_err_behind, links_end, links_turn, links_smaller, chosen_first, chosen_second}
+use Rattle.expr_parser.proofs.LinkTurns.{with_none, links_last, links_err_between, links_err_behind, links_end, links_turn, links_smaller, chosen_first, chosen_second}
 use Rattle.expr_parser.proofs.exprs.Exprs.links.Goals as goal
 
 abbrev operand : ℕ → Parser Expr
