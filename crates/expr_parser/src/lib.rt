@@ -16,6 +16,8 @@ mod records;
 mod shapes;
 
 pub use calls::expr;
+pub use chains::tree_at;
 pub use expr_grammar::one_expr;
 pub use grammar::NoTree;
+pub use operators::{operator, sign};
 pub use pattern_parser::{one_pattern, one_type, pattern, type_text};

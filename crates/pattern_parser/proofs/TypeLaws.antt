@@ -68,7 +68,7 @@ module _ (E E' : Rule TypeTree) (limit : ℕ) (s : Shallow E E' (λ x. type_nest
   other : Shallow (g.other E) (g.other E') Within
   other = either (same g.variable) (either brackets braces)
 
-  argument : Shallow (g.argument E) (g.argument E') Within
+  pub argument : Shallow (g.argument E) (g.argument E') Within
   argument = either (same g.bare) other
 
   applied : Shallow (g.applied E) (g.applied E') Within

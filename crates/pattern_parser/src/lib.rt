@@ -7,4 +7,4 @@ mod types;
 pub use patterns::{
     begins_pattern, brackets_at, cons_at, labels, one_pattern, part_at, pattern, pattern_at,
 };
-pub use types::{one_type, type_at, type_text};
+pub use types::{arguments_at, one_type, type_at, type_text};

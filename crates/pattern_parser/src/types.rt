@@ -120,6 +120,22 @@ pub fn type_at(
     .level(tokens)
 }
 
+/// The types that stand next as arguments, each to the same depth.
+pub fn arguments_at(
+    alloc: Global,
+    depth: usize,
+    tokens: &mut Cursor<'_>,
+) -> Result<Items<TypeTree>, Halt<NoTree>>
+    ensures { Reads (spec.arguments (spec.type_at depth) tokens.old) result tokens.new }
+{
+    Types {
+        alloc,
+        depth,
+        whole: type_at,
+    }
+    .arguments(tokens)
+}
+
 impl<F: Fn(Global, usize, &mut Cursor<'_>) -> Result<TypeTree, Halt<NoTree>>> Types<F> {
     fn whole(&self, tokens: &mut Cursor<'_>) -> Result<TypeTree, Halt<NoTree>>
         requires { ReadsTypes self.now.depth (F.pre self.now.whole) (F.post self.now.whole) }
