@@ -5,22 +5,9 @@ use std::io;
 use std::io::{Empty, ErrorKind, Read, Seek, SeekFrom, Write};
 use std::rt::Files;
 
-/// The calls of these numbers, counted from 1 and the last one with them, fail in this way.
+/// From the call of the first number, counted from 1, to that of the second, the calls fail in this way.
 #[derive(Clone, Copy)]
-pub struct Failing {
-    pub first: u64,
-    pub last: u64,
-    pub kind: ErrorKind,
-}
-
-/// The call of this number fails in this way.
-pub fn at(number: u64, kind: ErrorKind) -> Failing {
-    Failing {
-        first: number,
-        last: number,
-        kind,
-    }
-}
+pub struct Failing(pub u64, pub u64, pub ErrorKind);
 
 /// What can happen to the calls of a stream: each moves at most so many bytes, and some fail.
 #[derive(Clone, Copy)]
@@ -42,9 +29,9 @@ impl<'a> Calls<'a> {
     // How many of these bytes the next call moves.
     fn next_call(&mut self, asked: usize) -> io::Result<usize> {
         self.made = self.made.saturating_add(1);
-        for failing in self.failing {
-            if failing.first <= self.made && self.made <= failing.last {
-                return Err(io::Error::from(failing.kind));
+        for Failing(first, last, kind) in self.failing {
+            if *first <= self.made && self.made <= *last {
+                return Err(io::Error::from(*kind));
             }
         }
         Ok(asked.min(self.most))

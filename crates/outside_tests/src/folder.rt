@@ -1,9 +1,14 @@
 //! The shelf over a folder: over files that fail, and over those of the system.
-use crate::faulty::{Calls, Failing, FaultyFiles, at};
+use crate::faulty::{Calls, Failing, FaultyFiles};
+use crate::same;
+use reactor_outside::ShelfRefusal::{Failed, Missing, NoMemory};
 use reactor_outside::{FolderShelf, Shelf, ShelfRefusal};
+use std::alloc::Global;
 use std::fs;
 use std::io::ErrorKind;
 use std::os::unix::fs::symlink;
+use std::process::Abort;
+use std::rt::Files;
 use std::test::Fail;
 
 const TEXT: &[u8] = b"abcdefghij";
@@ -16,106 +21,105 @@ fn files(refused: Option<ErrorKind>, most: usize, failing: &[Failing]) -> Faulty
     }
 }
 
+/// What an error at opening a file is taken for, by a read and by a write.
+const OPENINGS: [(ErrorKind, ShelfRefusal, ShelfRefusal); 9] = [
+    (ErrorKind::NotFound, Missing, Failed),
+    (ErrorKind::NotADirectory, Missing, Failed),
+    (ErrorKind::OutOfMemory, NoMemory, NoMemory),
+    (ErrorKind::PermissionDenied, Failed, Failed),
+    (ErrorKind::IsADirectory, Failed, Failed),
+    (ErrorKind::FilesystemLoop, Failed, Failed),
+    (ErrorKind::InvalidFilename, Failed, Failed),
+    (ErrorKind::TimedOut, Failed, Failed),
+    (ErrorKind::Uncategorized, Failed, Failed),
+];
+
 #[test]
 fn only_a_file_that_is_not_there_is_missing(rt: HostRuntime) -> Result<(), Fail> {
-    let rows = [
-        (
-            ErrorKind::NotFound,
-            ShelfRefusal::Missing,
-            ShelfRefusal::Failed,
-        ),
-        (
-            ErrorKind::NotADirectory,
-            ShelfRefusal::Missing,
-            ShelfRefusal::Failed,
-        ),
-        (
-            ErrorKind::OutOfMemory,
-            ShelfRefusal::NoMemory,
-            ShelfRefusal::NoMemory,
-        ),
-        (
-            ErrorKind::PermissionDenied,
-            ShelfRefusal::Failed,
-            ShelfRefusal::Failed,
-        ),
-        (
-            ErrorKind::IsADirectory,
-            ShelfRefusal::Failed,
-            ShelfRefusal::Failed,
-        ),
-        (
-            ErrorKind::FilesystemLoop,
-            ShelfRefusal::Failed,
-            ShelfRefusal::Failed,
-        ),
-        (
-            ErrorKind::InvalidFilename,
-            ShelfRefusal::Failed,
-            ShelfRefusal::Failed,
-        ),
-        (
-            ErrorKind::TimedOut,
-            ShelfRefusal::Failed,
-            ShelfRefusal::Failed,
-        ),
-        (
-            ErrorKind::Uncategorized,
-            ShelfRefusal::Failed,
-            ShelfRefusal::Failed,
-        ),
-    ];
-    for (kind, read, write) in rows {
+    for (kind, read, write) in OPENINGS {
         let mut shelf = FolderShelf::new(files(Some(kind), 9, &[]));
-        assert_eq!(rt;
-            shelf.read(rt.alloc(), "a", 99).err(),
-            Some(read),
-            "{kind:?}"
-        );
-        assert_eq!(rt; shelf.write("a", TEXT), Err(write), "{kind:?}");
+        let refused = shelf.read(rt.alloc(), "a", 99).err();
+        same(&rt, refused, Some(read), "read");
+        let written = shelf.write("a", TEXT);
+        same(&rt, written, Err(write), "write");
+    }
+    Ok(())
+}
+
+/// Up to how many bytes a call moves, which calls fail, and what reads and writes of ten bytes answer.
+const CALLS: [(usize, &[Failing], Result<(), ShelfRefusal>); 6] = [
+    (99, &[], Ok(())),
+    (1, &[], Ok(())),
+    (3, &[Failing(2, 900, ErrorKind::Interrupted)], Ok(())),
+    (
+        3,
+        &[Failing(2, 2, ErrorKind::Other)],
+        Err(ShelfRefusal::Failed),
+    ),
+    // An error at an open file is never that it is missing.
+    (
+        3,
+        &[Failing(1, 1, ErrorKind::NotFound)],
+        Err(ShelfRefusal::Failed),
+    ),
+    (
+        3,
+        &[Failing(4, 4, ErrorKind::NotADirectory)],
+        Err(ShelfRefusal::Failed),
+    ),
+];
+
+#[test]
+fn a_file_is_read_and_written_whole_or_fails(rt: HostRuntime) -> Result<(), Fail> {
+    for (most, failing, wanted) in CALLS {
+        let mut shelf = FolderShelf::new(files(None, most, failing));
+        let read = shelf.read(rt.alloc(), "a", 10);
+        let whole = read.map(|bytes| bytes.as_slice() == TEXT);
+        same(&rt, whole, wanted.map(|()| true), "read");
+        let written = shelf.write("a", TEXT);
+        same(&rt, written, wanted, "write");
     }
     Ok(())
 }
 
 #[test]
-fn a_file_is_read_and_written_whole_or_fails(rt: HostRuntime) -> Result<(), Fail> {
-    let signals = Failing {
-        first: 2,
-        last: 900,
-        kind: ErrorKind::Interrupted,
-    };
-    let rows: [(usize, &[Failing], Result<(), ShelfRefusal>); 6] = [
-        (99, &[], Ok(())),
-        (1, &[], Ok(())),
-        (3, &[signals], Ok(())),
-        (3, &[at(2, ErrorKind::Other)], Err(ShelfRefusal::Failed)),
-        // An error at an open file is never that it is missing.
-        (3, &[at(1, ErrorKind::NotFound)], Err(ShelfRefusal::Failed)),
-        (
-            3,
-            &[at(4, ErrorKind::NotADirectory)],
-            Err(ShelfRefusal::Failed),
-        ),
-    ];
-    for (most, failing, wanted) in rows {
-        let mut shelf = FolderShelf::new(files(None, most, failing));
-        match shelf.read(rt.alloc(), "a", 10) {
-            Ok(bytes) => {
-                assert_eq!(rt; bytes.as_slice(), TEXT);
-                assert_eq!(rt; Ok(()), wanted);
-            }
-            Err(refusal) => assert_eq!(rt; Err(refusal), wanted),
-        }
-        assert_eq!(rt; shelf.write("a", TEXT), wanted);
-    }
+fn a_file_is_too_long_or_the_system_is_full(rt: HostRuntime) -> Result<(), Fail> {
     let mut shelf = FolderShelf::new(files(None, 1, &[]));
-    assert_eq!(rt;
-        shelf.read(rt.alloc(), "a", 9).err(),
-        Some(ShelfRefusal::TooLong)
-    );
+    let read = shelf.read(rt.alloc(), "a", 9).err();
+    same(&rt, read, Some(ShelfRefusal::TooLong), "read");
     let mut full = FolderShelf::new(files(None, 0, &[]));
-    assert_eq!(rt; full.write("a", TEXT), Err(ShelfRefusal::Failed));
+    let written = full.write("a", TEXT);
+    same(&rt, written, Err(ShelfRefusal::Failed), "write");
     Ok(())
+}
+
+// The file has these bytes, and is refused where fewer are asked for.
+fn holds<F: Files>(
+    rt: &impl Abort,
+    alloc: Global,
+    shelf: &mut FolderShelf<F>,
+    name: &str,
+    bytes: &[u8],
+) {
+    let read = shelf.read(alloc, name, bytes.len());
+    let whole = read.map(|found| found.as_slice() == bytes);
+    same(rt, whole, Ok(true), name);
+    let shorter = shelf.read(alloc, name, bytes.len().saturating_sub(1)).err();
+    same(rt, shorter, Some(ShelfRefusal::TooLong), name);
+}
+
+// The file can't be read, for this reason, nor written.
+fn refuses<F: Files>(
+    rt: &impl Abort,
+    alloc: Global,
+    shelf: &mut FolderShelf<F>,
+    name: &str,
+    refusal: ShelfRefusal,
+) {
+    let read = shelf.read(alloc, name, 9).err();
+    same(rt, read, Some(refusal), name);
+    let written = shelf.write(name, b"text");
+    same(rt, written, Err(ShelfRefusal::Failed), name);
 }
 
 #[test]
@@ -127,29 +131,23 @@ fn a_folder_keeps_long_files(rt: HostRuntime) -> Result<(), Fail> {
         long.push((number % 251) as u8)?;
     }
     let mut shelf = FolderShelf::new(&rt);
-    assert_eq!(rt; shelf.write(name, long.as_slice()), Ok(()));
-    let read = shelf.read(alloc, name, 10_000).ok().ok_or("no file")?;
-    assert_eq!(rt; read.as_slice(), long.as_slice());
-    assert_eq!(rt;
-        shelf.read(alloc, name, 9_999).err(),
-        Some(ShelfRefusal::TooLong)
-    );
-    // A shorter file in place of a longer one.
-    assert_eq!(rt; shelf.write(name, b"short"), Ok(()));
-    let read = shelf.read(alloc, name, usize::MAX).ok().ok_or("no file")?;
-    assert_eq!(rt; read.as_slice(), b"short".as_slice());
+    // The second time a shorter file stands in place of a longer one.
+    for bytes in [long.as_slice(), b"short".as_slice()] {
+        let written = shelf.write(name, bytes);
+        same(&rt, written, Ok(()), name);
+        holds(&rt, alloc, &mut shelf, name, bytes);
+    }
     // No file stands below a file.
-    let below = "outside_tests.long/file";
-    assert_eq!(rt;
-        shelf.read(alloc, below, 9).err(),
-        Some(ShelfRefusal::Missing)
+    refuses(
+        &rt,
+        alloc,
+        &mut shelf,
+        "outside_tests.long/file",
+        ShelfRefusal::Missing,
     );
-    assert_eq!(rt; shelf.write(below, b"text"), Err(ShelfRefusal::Failed));
     fs::remove_file(&rt, name)?;
-    assert_eq!(rt;
-        shelf.read(alloc, name, 9).err(),
-        Some(ShelfRefusal::Missing)
-    );
+    let removed = shelf.read(alloc, name, 9).err();
+    same(&rt, removed, Some(ShelfRefusal::Missing), name);
     Ok(())
 }
 
@@ -165,25 +163,17 @@ fn what_is_no_file_fails(rt: HostRuntime) -> Result<(), Fail> {
         name.push('a')?;
     }
     for name in ["outside_tests.folder", "outside_tests.link", name.as_str()] {
-        assert_eq!(rt;
-            shelf.read(alloc, name, 9).err(),
-            Some(ShelfRefusal::Failed),
-            "{name}"
-        );
-        assert_eq!(rt;
-            shelf.write(name, b"text"),
-            Err(ShelfRefusal::Failed),
-            "{name}"
-        );
+        refuses(&rt, alloc, &mut shelf, name, ShelfRefusal::Failed);
     }
     fs::remove_dir(&rt, "outside_tests.folder")?;
     fs::remove_file(&rt, "outside_tests.link")?;
     // Where there is no folder, a file is missing, and can't be written.
-    let nowhere = "outside_tests.nowhere/file";
-    assert_eq!(rt;
-        shelf.read(alloc, nowhere, 9).err(),
-        Some(ShelfRefusal::Missing)
+    refuses(
+        &rt,
+        alloc,
+        &mut shelf,
+        "outside_tests.nowhere/file",
+        ShelfRefusal::Missing,
     );
-    assert_eq!(rt; shelf.write(nowhere, b"text"), Err(ShelfRefusal::Failed));
     Ok(())
 }

@@ -1,6 +1,7 @@
 //! Sources, sinks and shelves over memory.
 ghost use Rattle.std.specs.Prelude.{◌<◌, All, IfOk};
 
+use crate::same;
 use reactor_outside::{
     Failed, MemShelf, MemSink, MemSource, Shelf, ShelfRefusal, Source, SureShelf, SureSink,
     SureSource, put,
@@ -45,28 +46,35 @@ fn sources_give_their_pieces(rt: HostRuntime) -> Result<(), Fail> {
         for answer in wanted {
             let mut into = [0u8; 4];
             let read = source.read(&mut into);
-            assert_eq!(rt; read, *answer);
-            let count = read.unwrap_or(0);
-            assert!(rt; count <= 4);
-            whole.extend_from_slice(&into[..count])?;
+            same(&rt, read, *answer, "a piece");
+            whole.extend_from_slice(&into[..read.unwrap_or(0).min(4)])?;
         }
-        assert_eq!(rt; whole.as_slice(), b"abcdefgh".as_slice());
+        same(&rt, whole.as_slice(), b"abcdefgh".as_slice(), "all");
     }
     Ok(())
 }
 
 #[test]
-fn other_sources(rt: HostRuntime) -> Result<(), Fail> {
+fn a_source_never_fails(rt: HostRuntime) -> Result<(), Fail> {
     let alloc = rt.alloc();
     let mut input = [0u8; 4];
     let mut sure = SureSource::new(b"abcdef".to_vec(alloc)?, positive(alloc, &[5])?);
     for (wanted, first) in [(4, b'a'), (1, b'e'), (1, b'f'), (0, b'f')] {
-        assert_eq!(rt; sure.read(&mut input), Ok(wanted));
-        assert_eq!(rt; input[0], first);
+        let read = sure.read(&mut input);
+        same(&rt, read, Ok(wanted), "a piece");
+        same(&rt, input[0], first, "its first byte");
     }
+    Ok(())
+}
+
+#[test]
+fn a_source_repeats_a_text(rt: HostRuntime) -> Result<(), Fail> {
+    let alloc = rt.alloc();
+    let mut input = [0u8; 4];
     let mut repeating = MemSource::repeating(b"ab".to_vec(alloc)?, 5, vec![in alloc; 2]?);
     for wanted in [Ok(2), Err(Failed), Ok(2), Ok(1), Ok(0)] {
-        assert_eq!(rt; repeating.read(&mut input), wanted);
+        let read = repeating.read(&mut input);
+        same(&rt, read, wanted, "a piece");
     }
     Ok(())
 }
@@ -75,11 +83,13 @@ fn other_sources(rt: HostRuntime) -> Result<(), Fail> {
 fn sinks_take_bytes(rt: HostRuntime) -> Result<(), Fail> {
     let alloc = rt.alloc();
     let mut sink = MemSink::new(alloc, vec![in alloc; 2]?);
-    assert_eq!(rt; put(&mut sink, b"abc"), Ok(()));
-    assert_eq!(rt; put(&mut sink, b"de"), Err(Failed));
-    assert_eq!(rt; put(&mut sink, b"fg"), Ok(()));
-    assert_eq!(rt; sink.bytes(), b"abcfg".as_slice());
-    assert_eq!(rt; put(&mut SureSink::new(), b"abc"), Ok(()));
+    for (bytes, wanted) in [("abc", Ok(())), ("de", Err(Failed)), ("fg", Ok(()))] {
+        let written = put(&mut sink, bytes.as_bytes());
+        same(&rt, written, wanted, bytes);
+    }
+    same(&rt, sink.bytes(), b"abcfg".as_slice(), "all");
+    let written = put(&mut SureSink::new(), b"abc");
+    same(&rt, written, Ok(()), "sure");
     Ok(())
 }
 
@@ -89,25 +99,39 @@ fn shelves_keep_files(rt: HostRuntime) -> Result<(), Fail> {
     let mut shelf = MemShelf::new(alloc, vec![in alloc; 3, 6]?);
     shelf.add("a/b", b"text")?;
     let text = shelf.read(alloc, "a/b", 4).ok().ok_or("no file")?;
-    assert_eq!(rt; text.as_slice(), b"text".as_slice());
+    same(&rt, text.as_slice(), b"text".as_slice(), "a/b");
     let refused = [
         ("a/b", 3, ShelfRefusal::TooLong),
         ("a/b", 4, ShelfRefusal::Failed),
         ("a", 4, ShelfRefusal::Missing),
     ];
     for (name, limit, refusal) in refused {
-        assert_eq!(rt; shelf.read(alloc, name, limit).err(), Some(refusal));
+        let found = shelf.read(alloc, name, limit).err();
+        same(&rt, found, Some(refusal), name);
     }
-    assert_eq!(rt; shelf.write("c", b"newer"), Ok(()));
-    assert_eq!(rt; shelf.write("c", b"lost"), Err(ShelfRefusal::Failed));
-    assert_eq!(rt; shelf.file("c"), Some(b"newer".as_slice()));
-    assert_eq!(rt; shelf.write("c", b"new"), Ok(()));
-    assert_eq!(rt; shelf.file("c"), Some(b"new".as_slice()));
-    assert_eq!(rt; shelf.file("a"), None);
-    let mut sure = SureShelf::new(alloc);
-    sure.add("a", b"one")?;
-    assert_eq!(rt; sure.write("a", b"two"), Ok(()));
-    assert_eq!(rt; sure.file("a"), Some(b"two".as_slice()));
-    assert_eq!(rt; sure.read(alloc, "b", 9).err(), Some(ShelfRefusal::Missing));
+    let rows: [(&[u8], Result<(), ShelfRefusal>, &[u8]); 3] = [
+        (b"newer", Ok(()), b"newer"),
+        (b"lost", Err(ShelfRefusal::Failed), b"newer"),
+        (b"new", Ok(()), b"new"),
+    ];
+    for (bytes, answer, kept) in rows {
+        let found = shelf.write("c", bytes);
+        same(&rt, found, answer, "c");
+        same(&rt, shelf.file("c"), Some(kept), "c");
+    }
+    same(&rt, shelf.file("a"), None, "a");
+    Ok(())
+}
+
+#[test]
+fn sure_shelves_keep_files(rt: HostRuntime) -> Result<(), Fail> {
+    let alloc = rt.alloc();
+    let mut shelf = SureShelf::new(alloc);
+    shelf.add("a", b"one")?;
+    let written = shelf.write("a", b"two");
+    same(&rt, written, Ok(()), "written");
+    same(&rt, shelf.file("a"), Some(b"two".as_slice()), "kept");
+    let missing = shelf.read(alloc, "b", 9).err();
+    same(&rt, missing, Some(ShelfRefusal::Missing), "missing");
     Ok(())
 }
