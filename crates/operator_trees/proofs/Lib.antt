@@ -1,0 +1,5 @@
+pub mod Sides
+pub mod Clashes
+pub mod Shapes
+pub mod RootLaws
+pub mod Building
