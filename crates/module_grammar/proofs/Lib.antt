@@ -1,0 +1,5 @@
+pub mod DeclarationReadings
+pub mod DeclarationLaws
+pub mod ChunkLaws
+pub mod Exact
+pub mod ModuleLaws
