@@ -3,4 +3,4 @@
 
 mod sizes;
 
-pub use sizes::{MOST_DEFINITIONS, defined_at, large_declaration};
+pub use sizes::{MOST_DEFINITIONS, defined_at, large_declaration, left_behind};

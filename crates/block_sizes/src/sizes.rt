@@ -32,7 +32,7 @@ pub fn defined_at(tree: &Declaration) -> Option<u32>
 }
 
 /// How many more definitions may come behind this declaration, or `None` where it is one too many.
-fn left_behind(left: usize, line: Option<u32>) -> Option<usize>
+pub fn left_behind(left: usize, line: Option<u32>) -> Option<usize>
     ensures { MatchOption result ((left ≡ 0) × (length (spec.present (line ∷ [])) ≡ 1))
         (λ next. next + length (spec.present (line ∷ [])) ≡ left) }
 {

@@ -41,10 +41,10 @@ said_err : {A B : Type 0} (r : Said A) (f : A → Said B) (e : TextFault) → an
 said_err (Ok x) f e h = inr (x, refl, h)
 said_err (Err d) f e h = inl (let same : d ≡ e = cc in ap (λ z. Err z) same)
 
-ok_is : {A : Type 0} {x y : A} → (let r : Said A = Ok x in r) ≡ Ok y → x ≡ y
+pub ok_is : {A : Type 0} {x y : A} → (let r : Said A = Ok x in r) ≡ Ok y → x ≡ y
 ok_is e = cc
 
-err_is : {A : Type 0} {e f : TextFault} → (let r : Said A = Err e in r) ≡ Err f → e ≡ f
+pub err_is : {A : Type 0} {e f : TextFault} → (let r : Said A = Err e in r) ≡ Err f → e ≡ f
 err_is h = cc
 
 -- ---- what chunks begin with

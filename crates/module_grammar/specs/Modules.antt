@@ -59,10 +59,14 @@ abbrev pub port_layer : {A B C : Type 0} → List ℕ → open_.Declaration-F A 
 port_layer name (open_.PortAnnotation at spot written) = pointwise nat_eq name spot.name
 port_layer name _ = false
 
+-- whether the declaration gives a port of this name its type
+abbrev pub is_port : List ℕ → Declaration → Bool
+is_port name x = port_layer name (out-Declaration x)
+
 -- whether the last of the declarations gives a port of this name its type
 abbrev pub ends_in_port : List ℕ → List Declaration → Bool
 ends_in_port name [] = false
-ends_in_port name (x ∷ []) = port_layer name (out-Declaration x)
+ends_in_port name (x ∷ []) = is_port name x
 ends_in_port name (x ∷ y ∷ ys) = ends_in_port name (y ∷ ys)
 
 abbrev pub stands_layer : {A B C : Type 0} → List Declaration → List Chunk → open_.Declaration-F A B C → Bool
