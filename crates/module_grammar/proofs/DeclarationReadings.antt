@@ -121,7 +121,7 @@ grouping_reads : Reading g.grouping m.grouping false levels_begin []
 unfolding m.grouping m.left_grouping m.right_grouping m.no_grouping same_terminal
 grouping_reads = within (either (by _ (mark k.Infixl)) (either (by _ (mark k.Infixr)) (by _ (mark k.Infix)) refl) refl) refl refl
 
-levels_read : Reading g.levels m.levels false levels_begin []
+pub levels_read : Reading g.levels m.levels false levels_begin []
 unfolding m.levels same_terminal
 levels_read = within (by _ (at (seq grouping_reads (seq level_reads operator_reads refl) refl))) refl refl
 
@@ -157,7 +157,7 @@ module _ (depth : ℕ) where
       within (by _ (by _ (seq (mark k.Alias) (seq upper_spot_reads
       (seq variables_read (by _ (seq (mark k.Equals) (type_reads depth) refl)) refl) refl) refl))) refl refl
 
-  type_declaration_reads : Reading (g.type_declaration (rules_at depth)) (m.type_declaration (below depth)) false (k.Type ∷ []) (k.Bar ∷ types.go_on)
+  pub type_declaration_reads : Reading (g.type_declaration (rules_at depth)) (m.type_declaration (below depth)) false (k.Type ∷ []) (k.Bar ∷ types.go_on)
   unfolding m.type_declaration same_terminal
   type_declaration_reads = within (by _ (at (by _ (seq (mark k.Type) (either alias_reads union_reads refl) refl)))) refl refl
 
@@ -169,7 +169,7 @@ module _ (depth : ℕ) where
   unfolding m.port_defined same_terminal
   port_defined_reads = let t = tree_reads depth in within (by _ (by _ (seq (mark k.Equals) t.whole refl))) refl refl
 
-  port_reads : Reading (g.port (rules_at depth)) (m.port (below depth)) false (k.Port ∷ []) (k.Arrow ∷ goes_on)
+  pub port_reads : Reading (g.port (rules_at depth)) (m.port (below depth)) false (k.Port ∷ []) (k.Arrow ∷ goes_on)
   unfolding m.port same_terminal
   port_reads = within (by _ (at (by _ (seq (mark k.Port) (seq spot (either port_annotated_reads port_defined_reads refl) refl) refl)))) refl refl
 

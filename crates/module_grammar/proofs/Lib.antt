@@ -3,3 +3,4 @@ pub mod DeclarationLaws
 pub mod ChunkLaws
 pub mod Exact
 pub mod ModuleLaws
+pub mod StandLaws

@@ -65,7 +65,7 @@ import_no_module : (c : Chunk) (x : Import) → Line g.import_ c x → starts (k
 unfolding same_terminal
 import_no_module c x w = begun (k.Import ∷ []) (k.Module ∷ []) c refl (import_reads.begins c x w.1)
 
-begun_so : (set : List Terminal) (c : Chunk) → Begins false set c → starts set c ≡ true
+pub begun_so : (set : List Terminal) (c : Chunk) → Begins false set c → starts set c ≡ true
 begun_so set [] b = cc
 begun_so set (t ∷ ts) b = b
 

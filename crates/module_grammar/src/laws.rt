@@ -1,8 +1,9 @@
 //! What holds of the grammar of modules, whatever reads it.
-ghost use Rattle.std.specs.Prelude.{◌≡◌, List};
+ghost use Rattle.std.specs.Prelude.{◌≡◌, List, true};
 ghost use Rattle.elm_base.specs.Lexemes.{Lexeme};
 ghost use Rattle.elm_base.specs.declared.tree.Declaration.{Declaration};
 ghost use Rattle.elm_base.specs.declared.tree.Module.{Module};
+ghost use Rattle.expr_grammar.specs.Expressions.{annotations_stand};
 ghost use Rattle.layout_lexer.specs.declared.place.TextFault.{TextFault};
 ghost use Rattle.module_grammar.specs.Declarations.{DerivesDeclaration};
 ghost use Rattle.module_grammar.specs.Modules.{DerivesModule, FirstFault, Fit, Nest};
@@ -24,4 +25,10 @@ pub fn one_outcome()
         → FirstFault ts f → FirstFault ts g → f ≡ g }
     ensures no_fault { (ts : List Lexeme) (f : TextFault) (x : Module) → FirstFault ts f
         → DerivesModule ts x → Nest x.declarations → Fit x.declarations → ⊥ }
+{}
+
+/// In a module that derives, each annotation stands directly before a definition of its name.
+pub fn annotations_lead()
+    ensures { (ts : List Lexeme) (x : Module)
+        → DerivesModule ts x → annotations_stand x.declarations ≡ true }
 {}

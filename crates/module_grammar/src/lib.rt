@@ -5,4 +5,4 @@ mod header;
 mod laws;
 
 pub use header::Header;
-pub use laws::{one_declaration, one_module, one_outcome};
+pub use laws::{annotations_lead, one_declaration, one_module, one_outcome};
