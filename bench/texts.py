@@ -70,7 +70,7 @@ def module(size):
     while True:
         line = f"d{turn:04} x = f x + {turn:04} * g (x - 1) - [x, y, z]\n"
         line = line[:-1] + " " * (52 - len(line)) + "\n"
-        if used + len(line) > size:
+        if turn == size * 5000 // 262144:
             break
         out.append(line)
         used += len(line)
