@@ -1,7 +1,7 @@
 #!/usr/bin/env python3
 """Times the built programs on inputs of growing size: the best of several runs counts.
 
-usage: bench/bench.py NAME..    NAME: lexer, parser, stack, types, arena, lines, reactor
+usage: bench/bench.py NAME..    NAME: lexer, parser, stack, modules, types, arena, lines, reactor
 
 The programs are those that `rt run` leaves in crates/NAME/out. Each row has the input, the best time and the greatest
 memory of a run. Figures of a machine that is busy with other work are worth little.
@@ -80,6 +80,13 @@ def stack(folder):
         print(f"{form}: {high} KiB of stack")
 
 
+def modules(folder):
+    import texts
+    for text in [texts.module(size) for size in [65536, 131072, 262144]] + [texts.chains(count) for count in [1250, 2500, 5000]]:
+        spent, memory, _, said, _ = best([program("module_bench")], written(folder, text.encode()))
+        row(said, spent, memory, rounds=16, size=len(text))
+
+
 def by_numbers(name, rows):
     """Programs that read two numbers, less the time of a run with nothing to do."""
     def timed(folder):
@@ -121,6 +128,7 @@ BENCHES = {
     "lexer": lexer,
     "parser": parser,
     "stack": stack,
+    "modules": modules,
     "types": by_numbers("types_bench", [(500, 0), (1000, 0), (2000, 0), (0, 10000), (0, 20000)]),
     "arena": by_numbers("arena_bench", [(50000, 0), (100000, 0), (0, 500000), (0, 1000000)]),
     "lines": lines,

@@ -62,3 +62,22 @@ def one_let(size):
 
 def deep_forms():
     return {name: "".join(parts) for name, parts in FORMS.items()}
+
+
+def module(size):
+    """A module of so many bytes, of small definitions: 5,000, as many as it may have, in 262,144 bytes."""
+    out, used, turn = ["module Main where\n"], 18, 0
+    while True:
+        line = f"d{turn:04} x = f x + {turn:04} * g (x - 1) - [x, y, z]\n"
+        line = line[:-1] + " " * (52 - len(line)) + "\n"
+        if turn == size * 5000 // 262144:
+            break
+        out.append(line)
+        used += len(line)
+        turn += 1
+    return "".join(out) + " " * (size - used)
+
+
+def chains(count):
+    """So many definitions, each a chain of 100 operators."""
+    return "".join(f"d{turn} =" + " a +" * 100 + " b\n" for turn in range(count))

@@ -1,0 +1,3 @@
+mod Earliest
+mod OverLaws
+mod SizeLaws

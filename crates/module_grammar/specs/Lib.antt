@@ -1,0 +1,5 @@
+pub mod Declarations
+pub mod DeclarationReader
+pub mod Chunks
+pub mod Modules
+pub mod ModuleReader
