@@ -17,10 +17,10 @@ use Rattle.typing_rules.specs.CoreTypes.{CoreHas}
 use Rattle.typing_rules.specs.TypingExamples.{number, text, sets, call, cores, tuple_of, branches, name, lambda, let_name, always, mouse_x, show, here, Has, two_fields, named_twice, functions}
 
 -- which type the first variable stands for, and all others
-abbrev where_is : String → Ground → Ground → Choice
+abbrev pub where_is : String → Ground → Ground → Choice
 where_is variable t others x = if bytes_eq (codes variable) x then t else others
 
-abbrev always_is : Ground → Choice
+abbrev pub always_is : Ground → Choice
 always_is t x = t
 
 -- natives

@@ -1,17 +1,17 @@
 -- Trees of worked cases, in their plain form, and the world in which they stand.
-use Rattle.std.specs.Prelude.{ℕ, pos, Option, None, List, [], ◌∷◌, codes}
+use Rattle.std.specs.Prelude.{ℕ, pos, Option, Some, None, List, [], ◌∷◌, codes}
 use Prim.Native.String.{String}
-use Rattle.elm_base.specs.declared.native.TheConstants.{LESS, TO_STRING, TEXT, MAP}
+use Rattle.elm_base.specs.declared.native.TheConstants.{ADD, LESS, TO_STRING, TEXT, MAP}
 use Rattle.elm_base.specs.declared.term.Literal.TheVariants as literal
 use Rattle.elm_typing.specs.Ground.{Ground}
 use Rattle.elm_typing.specs.Spelling.{all_simple}
-use Rattle.typing_rules.specs.WrittenTypes.{Written}
-use Rattle.typing_rules.specs.Library.{library_unions, devices}
+use Rattle.typing_rules.specs.WrittenTypes.{Written, Variable, NoWrittenFields, AndWrittenField}
+use Rattle.typing_rules.specs.Library.{library_unions, devices, int_}
 use Rattle.typing_rules.specs.CorePatterns.{CorePattern, CorePatterns, NoCorePatterns, AndCorePattern}
 use Rattle.typing_rules.specs.Worlds.{Types, World, no_surroundings}
 use Rattle.typing_rules.specs.Core.{Core, Cores, CoreFields, CoreBranches, CoreGroup, Local, Top, Input, Literal, Native, Constructor, Held, Lambda, Call, If, Guards, Case, LetValue, LetFunctions, Tuple, ListOf, Range, Fields, Update, Extend, Remove, Field, NoCores, AndCore, NoCoreFields, AndCoreField, NoCoreGuards, AndCoreGuard, NoCoreBranches, AndCoreBranch, NoCoreFunctions, AndCoreFunction}
 use Rattle.typing_rules.specs.CoreTypes.{CoreHas}
-use Rattle.typing_rules.specs.TopGroups.{Definition, no_tops, world_with, after_groups}
+use Rattle.typing_rules.specs.TopGroups.{Definition, no_tops, world_with, after_groups, IsAccepted}
 
 abbrev pub number : ℕ → Core
 number n = Literal (literal.Int (pos n))
@@ -112,3 +112,37 @@ lone written e = record { top = 9; annotation = written; body = e } ∷ []
 abbrev pub functions : List Ground → Ground → Ground
 functions [] result = result
 functions (t ∷ ts) result = Ground.Function t (functions ts result)
+
+-- written types of annotations
+
+abbrev pub var : String → Written
+var x = Variable (codes x)
+
+-- { r | x : Int }
+abbrev pub with_x : Written
+with_x = Written.Fields (Some (codes "r")) (AndWrittenField (codes "x") int_ NoWrittenFields)
+
+-- the group of one definition with this annotation has a typing that is accepted
+abbrev pub Accepted : Written → Core → Type 0
+Accepted written e = IsAccepted (world_with library_unions devices (after_groups library_unions devices tops_before no_tops)) (lone (Some written) e)
+
+-- x < y, and x + 1
+abbrev pub smaller : Core
+smaller = lambda 0 (lambda 1 (call (Native LESS) (Local 0 ∷ Local 1 ∷ [])))
+
+abbrev pub one_more : Core
+one_more = lambda 0 (call (Native ADD) (Local 0 ∷ number 1 ∷ []))
+
+-- \r -> r.x
+abbrev pub get_x : Core
+get_x = lambda 0 (Field (Local 0) (codes "x"))
+
+-- patterns
+
+abbrev pub patterns : List CorePattern → CorePatterns
+patterns [] = NoCorePatterns
+patterns (p ∷ ps) = AndCorePattern p (patterns ps)
+
+-- a constructor of whichever union has it
+abbrev pub made : String → List CorePattern → CorePattern
+made constructor ps = CorePattern.Made None (codes constructor) (patterns ps)

@@ -3,14 +3,20 @@
 //! laws of the definitions.
 #![tactic(auto)]
 
+mod annotation_cases;
 mod let_cases;
+mod pattern_cases;
 mod record_cases;
 mod signature_cases;
 mod sort_cases;
 
+pub use annotation_cases::{
+    annotations_are_kept, variables_have_chosen_sorts, variables_have_their_flags,
+};
 pub use let_cases::{
     definitions_are_generalised, definitions_keep_their_surroundings, no_let_hides_a_signal,
 };
+pub use pattern_cases::{constructors_have_types, patterns_fit_types};
 pub use record_cases::the_newest_field_counts;
 pub use signature_cases::{
     a_default_has_the_type_of_what_is_given, a_joining_is_of_appendable_types,
