@@ -9,3 +9,4 @@ pub mod Core
 pub mod CoreTypes
 pub mod TopGroups
 pub mod TypingExamples
+pub mod Nodes

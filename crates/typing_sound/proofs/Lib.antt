@@ -1,0 +1,4 @@
+pub mod Combine
+pub mod Monotone
+pub mod Filled
+pub mod Bound
