@@ -2,6 +2,7 @@
 use Rattle.std.proofs.Common.{◌≡◌, ℕ, zero, suc, ℤ, Bool, true, false, Option, Some, None, List, [], ◌∷◌, ◌++◌, refl, sym, ap, ◌∙◌, subst}
 use Rattle.std.specs.Prelude.{codes, if◌then◌else◌}
 use Rattle.std.specs.Str.{bytes_eq}
+use Rattle.elm_typing.specs.declared.flag.Flag.{Flag}
 use Rattle.elm_typing.specs.Ground.{Ground, Grounds, Row, NoGrounds, AndGround}
 use Rattle.elm_typing.specs.Names.{int_name, char_name, string_name, list_name, signal_name, list_of, signal_of}
 use Rattle.elm_typing.specs.Spelling.{int, char, string, bool}
@@ -11,13 +12,9 @@ use Rattle.typing_rules.specs.Unions.{Union, constructors_in, union_named, parts
 use Rattle.typing_rules.specs.Library.{element, library_unions}
 use Rattle.typing_rules.specs.Worlds.{World}
 use Rattle.typing_rules.specs.TermTypes.{ValueHas, ValuesHave, FieldsHave, FunctionHas, AreTaken}
+use Rattle.typing_sound.specs.Safe.{HasLibrary}
 use Rattle.typing_sound.proofs.Bound.{same_bytes, taken_all}
 use Rattle.typing_sound.proofs.Functions.{IsFunction, function_type}
-
--- the unions of the library come first
-pub record HasLibrary (w : World) : Type 0 where
-  pub own : List Union
-  pub first : w.unions ≡ library_unions ++ own
 
 abbrev pub direction : Ground
 direction = Ground.Named (codes "Graphics.Element.Direction") NoGrounds
@@ -45,6 +42,10 @@ is_record _ = false
 abbrev pub is_tuple : Ground → Bool
 is_tuple (Ground.Tuple ts) = true
 is_tuple _ = false
+
+abbrev pub is_opaque : Ground → Bool
+is_opaque (Ground.Opaque n f) = true
+is_opaque _ = false
 
 pub same_name : (n m : List ℕ) (ts us : Grounds) → Ground.Named n ts ≡ Ground.Named m us → n ≡ m
 same_name n m ts us e = cc
@@ -85,22 +86,22 @@ module _ (w : World) (l : HasLibrary w) where
 
   -- the types without constructors
 
-  not_made_int : (k : List ℕ) (vs : Values) (ts : Grounds) → ValueHas w (Made k vs) (Ground.Named int_name ts) → ⊥
+  pub not_made_int : (k : List ℕ) (vs : Values) (ts : Grounds) → ValueHas w (Made k vs) (Ground.Named int_name ts) → ⊥
   not_made_int k vs ts h = (let g = made_of k vs int_name ts h in none_left g.0 ⊥ g.1)
 
-  not_made_char : (k : List ℕ) (vs : Values) (ts : Grounds) → ValueHas w (Made k vs) (Ground.Named char_name ts) → ⊥
+  pub not_made_char : (k : List ℕ) (vs : Values) (ts : Grounds) → ValueHas w (Made k vs) (Ground.Named char_name ts) → ⊥
   not_made_char k vs ts h = (let g = made_of k vs char_name ts h in none_left g.0 ⊥ g.1)
 
-  not_made_string : (k : List ℕ) (vs : Values) (ts : Grounds) → ValueHas w (Made k vs) (Ground.Named string_name ts) → ⊥
+  pub not_made_string : (k : List ℕ) (vs : Values) (ts : Grounds) → ValueHas w (Made k vs) (Ground.Named string_name ts) → ⊥
   not_made_string k vs ts h = (let g = made_of k vs string_name ts h in none_left g.0 ⊥ g.1)
 
-  not_made_list : (k : List ℕ) (vs : Values) (ts : Grounds) → ValueHas w (Made k vs) (Ground.Named list_name ts) → ⊥
+  pub not_made_list : (k : List ℕ) (vs : Values) (ts : Grounds) → ValueHas w (Made k vs) (Ground.Named list_name ts) → ⊥
   not_made_list k vs ts h = (let g = made_of k vs list_name ts h in none_left g.0 ⊥ g.1)
 
-  not_made_signal : (k : List ℕ) (vs : Values) (ts : Grounds) → ValueHas w (Made k vs) (Ground.Named signal_name ts) → ⊥
+  pub not_made_signal : (k : List ℕ) (vs : Values) (ts : Grounds) → ValueHas w (Made k vs) (Ground.Named signal_name ts) → ⊥
   not_made_signal k vs ts h = (let g = made_of k vs signal_name ts h in none_left g.0 ⊥ g.1)
 
-  not_made_element : (k : List ℕ) (vs : Values) (ts : Grounds) → ValueHas w (Made k vs) (Ground.Named (codes "Graphics.Element.Element") ts) → ⊥
+  pub not_made_element : (k : List ℕ) (vs : Values) (ts : Grounds) → ValueHas w (Made k vs) (Ground.Named (codes "Graphics.Element.Element") ts) → ⊥
   not_made_element k vs ts h = (let g = made_of k vs (codes "Graphics.Element.Element") ts h in none_left g.0 ⊥ g.1)
 
   pub int_value : (v : Value) → ValueHas w v int → (z : ℤ) × (v ≡ Int z)
@@ -291,3 +292,37 @@ module _ (w : World) (l : HasLibrary w) where
   position_value (Applicable f) h = absurd (apart_by (is_named (codes "Graphics.Element.Position")) _ _ refl refl (function_type w f position h).2)
   position_value (Cells x y rows) h = absurd (apart_by (is_named (codes "Graphics.Element.Position")) _ _ refl refl h)
   position_value (Signal n) h = absurd (apart_by (is_named (codes "Graphics.Element.Position")) _ _ refl refl h.1)
+
+  -- a value of a type with parts has values of theirs, and that without parts is ()
+  abbrev pub IsTupleOf : Grounds → Value → Type 0
+  IsTupleOf ts (Tuple vs) = ValuesHave w vs ts
+  IsTupleOf ts UnitValue = ts ≡ NoGrounds
+  IsTupleOf ts _ = ⊥
+
+  pub tuple_value : (v : Value) (ts : Grounds) → ValueHas w v (Ground.Tuple ts) → IsTupleOf ts v
+  tuple_value (Int z) ts h = absurd (apart_by is_tuple _ _ refl refl h)
+  tuple_value (Char n) ts h = absurd (apart_by is_tuple _ _ refl refl h)
+  tuple_value (Text b) ts h = absurd (apart_by is_tuple _ _ refl refl h)
+  tuple_value UnitValue ts h = same_parts ts NoGrounds h
+  tuple_value Nil ts h = absurd (apart_by is_tuple _ _ refl refl h.1)
+  tuple_value (Cons x xs) ts h = absurd (apart_by is_tuple _ _ refl refl h.1)
+  tuple_value (Tuple xs) ts h = subst (ValuesHave w xs) (same_parts h.0 ts (sym h.1)) h.2
+  tuple_value (Made k xs) ts h = absurd (apart_by is_tuple _ _ refl refl (made_in k xs (Ground.Tuple ts) h).3)
+  tuple_value (Record fs) ts h = absurd (apart_by is_tuple _ _ refl refl h.1)
+  tuple_value (Applicable f) ts h = absurd (apart_by is_tuple _ _ refl refl (function_type w f (Ground.Tuple ts) h).2)
+  tuple_value (Cells x y rows) ts h = absurd (apart_by is_tuple _ _ refl refl h)
+  tuple_value (Signal n) ts h = absurd (apart_by is_tuple _ _ refl refl h.1)
+
+  pub opaque_value : (v : Value) (m : ℕ) (g : Flag) → ValueHas w v (Ground.Opaque m g) → ⊥
+  opaque_value (Int z) m g h = absurd (apart_by is_opaque _ _ refl refl h)
+  opaque_value (Char n) m g h = absurd (apart_by is_opaque _ _ refl refl h)
+  opaque_value (Text b) m g h = absurd (apart_by is_opaque _ _ refl refl h)
+  opaque_value UnitValue m g h = absurd (apart_by is_opaque _ _ refl refl h)
+  opaque_value Nil m g h = absurd (apart_by is_opaque _ _ refl refl h.1)
+  opaque_value (Cons x xs) m g h = absurd (apart_by is_opaque _ _ refl refl h.1)
+  opaque_value (Tuple xs) m g h = absurd (apart_by is_opaque _ _ refl refl h.1)
+  opaque_value (Made k xs) m g h = absurd (apart_by is_opaque _ _ refl refl (made_in k xs (Ground.Opaque m g) h).3)
+  opaque_value (Record fs) m g h = absurd (apart_by is_opaque _ _ refl refl h.1)
+  opaque_value (Applicable f) m g h = absurd (apart_by is_opaque _ _ refl refl (function_type w f (Ground.Opaque m g) h).2)
+  opaque_value (Cells x y rows) m g h = absurd (apart_by is_opaque _ _ refl refl h)
+  opaque_value (Signal n) m g h = absurd (apart_by is_opaque _ _ refl refl h.1)

@@ -4,3 +4,4 @@ pub mod Filled
 pub mod Bound
 pub mod Functions
 pub mod Canonical
+pub mod Comparing
