@@ -5,3 +5,5 @@ pub mod Bound
 pub mod Functions
 pub mod Canonical
 pub mod Comparing
+pub mod Replies
+pub mod Natives
