@@ -7,3 +7,4 @@ pub mod Canonical
 pub mod Comparing
 pub mod Replies
 pub mod Natives
+pub mod Stages
