@@ -36,7 +36,7 @@ same_bytes xs ys e = exact_bytes xs ys (equal (slice_cmp nat_cmp xs ys) (is_eq-s
     equal ordering.Equal h = refl
     equal ordering.Greater h = cc h
 
-some_is : {A : Type 0} (a b : A) → Some a ≡ Some b → a ≡ b
+pub some_is : {A : Type 0} (a b : A) → Some a ≡ Some b → a ≡ b
 some_is a b e = cc
 
 module _ (w : World) where

@@ -8,3 +8,5 @@ pub mod Comparing
 pub mod Replies
 pub mod Natives
 pub mod Stages
+pub mod RecordValues
+pub mod Sound

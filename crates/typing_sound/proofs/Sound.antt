@@ -1,0 +1,281 @@
+-- A well-typed term never has an ill-typed case: its evaluation is safe.
+use Rattle.std.proofs.Common.{◌≡◌, ℕ, zero, suc, ◌<◌, ◌≤◌, ◌+◌, ◌==◌, ◌-◌, ℤ, pos, negsuc, Bool, true, false, Option, Some, None, List, [], ◌∷◌, ◌++◌, length, refl, sym, ap, ◌∙◌, subst, arith}
+use Rattle.std.specs.Prelude.{if◌then◌else◌, codes, slice_get, nat_lt, nat_le, ◌+ℤ◌, ◌-ℤ◌}
+use Rattle.std.specs.Str.{bytes_eq}
+use Rattle.std.proofs.lemmas.Bool.{eqb-true, eqb-false}
+use Rattle.elm_base.specs.declared.term.RunFault.TheVariants as fault
+use Rattle.elm_typing.specs.Ground.{Ground, Grounds, Row, NoGrounds, AndGround, Ends}
+use Rattle.elm_typing.specs.Names.{list_of, signal_of}
+use Rattle.elm_typing.specs.Sorts.{Sort, Simple, Signal, sort_of, IsAtMost, IsWellSorted, AreSimple, HasSimpleFields}
+use Rattle.elm_typing.specs.Spelling.{int, bool}
+use Rattle.elm_meaning.specs.declared.callee.Callee.{Callee}
+use Rattle.elm_meaning.specs.declared.callee.Callee.TheVariants as callee
+use Rattle.elm_meaning.specs.Patterns.{Pattern}
+use Rattle.elm_meaning.specs.Values.{Value, Values, Fields, Function, Int, Nil, Cons, Tuple, Made, Record, Applicable, Signal as SignalValue, NoValues, AndValue, NoFields, AndField, Closure, Member, Partial, Tree, Done, Local, Top, Input, Lambda, Call, If, Guards, Case, LetValue, LetFunctions, TupleTree, ListTree, Range, RecordTree, Update, Extend, Remove, Field, NoTree, Trees, NoTrees, AndTree, FieldTrees, NoFieldTrees, AndFieldTree, GuardedTrees, NoGuards, AndGuard, Branches, NoBranches, AndBranch, Group, NoFunctions, AndFunction}
+use Rattle.elm_meaning.specs.FreeNames.{function_names}
+use Rattle.elm_meaning.specs.Records as record_of
+use Rattle.elm_meaning.specs.Records.{put_all}
+use Rattle.elm_meaning.specs.Matching.{Bindings, matching, names_of}
+use Rattle.elm_meaning.specs.Substitution.{Names, no_names, bind, bind_all, bind_from, bind_group, hide_all, hide_group, fill, fill_group}
+use Rattle.elm_meaning.specs.Answers.{Answer, Gives, Faults, Reply, named}
+use Rattle.elm_meaning.specs.Equations.{Equation}
+use Rattle.elm_meaning.specs.NativeTable.{Native, IsValue, Replies, MakesNode, native_at, takes_of}
+use Rattle.elm_meaning.specs.Progress.{Stage, State, Ending, Returns, Stops, NoRule, with_left, with_notes, with_equations, then_do, spend_where, spend, answered, replied, add_behind, add_node, made_node}
+use Rattle.elm_meaning.specs.Evaluation.{Bodies, where_fits, with_argument, number_of, list_of as listed_values, constructed, where_all, native_given, given, member_entered, entered, apply, truth_of, if_true, if_fits, listed, range_length, numbers_from, ranged, record_or_none, value_or_none, set_all, updated, extended, removed, field_of, with_bodies, with_all, with_fields, with_guards, with_branches, to_depth, evaluate}
+use Rattle.typing_rules.specs.Unions.{Union, UnionGives, ConstructorGives, GivesWhere, count_of, arrows}
+use Rattle.typing_rules.specs.Library.{signature_of}
+use Rattle.typing_rules.specs.CorePatterns.{CorePattern, core_pattern, Fits}
+use Rattle.typing_rules.specs.Worlds.{Types, Surroundings, no_surroundings, exactly, with_name, Bound, with_bound, World, IsProper, MayStandIn}
+use Rattle.typing_rules.specs.Rules.{Abstracted, Branch, Defined, TakenApart, NamedValue, Typings, type_at, under_work, GivenBy, generalised, NativeGives}
+use Rattle.typing_rules.specs.TermTypes.{CalleeGives, takes, ValueHas, ValuesHave, FieldsHave, AreTaken, FunctionHas, TermHas, AllHave, EachHas, GuardsHave, BranchesHave, FieldsOver, NewestAre, EachFunctionHas, GroupHas}
+use Rattle.typing_rules.specs.Nodes.{NativeCall, CallGives, call_of, EquationHas, at_equations}
+use Rattle.typing_sound.specs.Safe.{HasLibrary, GivesTyped, MakesTyped}
+use Rattle.typing_sound.specs.SafeEndings.{at_stage, Grows, IsSafe}
+use Rattle.typing_sound.proofs.Combine.{Sub, Within, same, same_within, Alike}
+use Rattle.typing_sound.proofs.Monotone.{Below, callee_more, taken_more, value_more, values_more, term_more}
+use Rattle.typing_sound.proofs.Filled.{Fills, FillsAt, Paired, paired, fills_work, filled_names, functions_filled, term_filled}
+use Rattle.typing_sound.proofs.Bound.{some_is, same_bytes, BindsHave, MatchHas, match_has, newest_has, Typed, typed_nothing, typed_name, typed_less, typed_bound, typed_group, work_given}
+use Rattle.typing_sound.proofs.Canonical.{bool_value, int_value, record_value, function_value}
+use Rattle.typing_sound.proofs.Natives.{safe_native}
+use Rattle.typing_sound.proofs.Functions.{IsFunction}
+use Rattle.typing_sound.proofs.RecordValues.{extended_simple, newest_simple, remove_field_has, PutHave, put_all_has, SetHave, set_all_has, put_later, set_later}
+use Rattle.typing_sound.proofs.Stages.{stage_below, stages_below, value_later, typed_later, grows_same, grows_then, sort_case, simple_below, at_most_itself, simple_at_most, safe_later, then_all, then_one, node_added, order_added}
+
+-- the types of terms are proper
+proper_of : (w : World) (s : Surroundings) (e : Tree) (t : Ground) → TermHas w s e t → IsProper w t
+proper_of w s (Done v) t h = h.0
+proper_of w s (Local y) t h = h.0
+proper_of w s (Top n) t h = h.0
+proper_of w s (Input n) t h = h.0
+proper_of w s (Lambda p b) t h = h.0
+proper_of w s (Call f a) t h = h.0
+proper_of w s (If c y n) t h = h.0
+proper_of w s (Guards gs) t h = h.0
+proper_of w s (Case e bs) t h = h.0
+proper_of w s (LetValue p e b) t h = h.0
+proper_of w s (LetFunctions g b) t h = h.0
+proper_of w s (TupleTree es) t h = h.0
+proper_of w s (ListTree es) t h = h.0
+proper_of w s (Range l u) t h = h.0
+proper_of w s (RecordTree fs) t h = h.0
+proper_of w s (Update e fs) t h = h.0
+proper_of w s (Extend e fs) t h = h.0
+proper_of w s (Remove e l) t h = h.0
+proper_of w s (Field e l) t h = h.0
+proper_of w s NoTree t h = h.0
+
+-- arguments
+
+pub one_more_taken : (w : World) (vs : Values) (x : Value) (whole u t : Ground) → AreTaken w vs whole (Ground.Function u t) → ValueHas w x u → AreTaken w (with_argument vs x) whole t
+one_more_taken w NoValues x whole u t h k = subst (λ z. AreTaken w (AndValue x NoValues) z t) h (k, refl)
+one_more_taken w (AndValue v vs) x (Ground.Function a r) u t h k = (h.0, one_more_taken w vs x r u t h.1 k)
+one_more_taken w (AndValue v vs) x (Ground.Named n ts) u t h k = absurd h
+one_more_taken w (AndValue v vs) x (Ground.Tuple ts) u t h k = absurd h
+one_more_taken w (AndValue v vs) x (Ground.Record r) u t h k = absurd h
+one_more_taken w (AndValue v vs) x (Ground.Opaque n f) u t h k = absurd h
+
+pub one_more_number : (vs : Values) (x : Value) → number_of (with_argument vs x) ≡ suc (number_of vs)
+one_more_number NoValues x = refl
+one_more_number (AndValue v vs) x = ap suc (one_more_number vs x)
+
+fits_less : (n m : ℕ) → n < m → ((suc n == m) ≡ false) → suc n < m
+fits_less n m h e = (let d = eqb-false (suc n) m e in less n m h d)
+  where
+    less : (n m : ℕ) → n < m → (suc n ≡ m → ⊥) → suc n < m
+    less n zero h d = omega (arith, h)
+    less zero (suc zero) h d = absurd (d refl)
+    less zero (suc (suc m)) h d = omega arith
+    less (suc n) (suc m) h d = (let i = less n m (omega (arith, h)) (λ e. d (ap suc e)) in omega (arith, i))
+
+-- fillings
+
+filled_at : (w : World) (o : Option Value) (t : Ground) → ((v : Value) × (o ≡ Some v) × ValueHas w v t) → FillsAt w o ⊥ t
+filled_at w None t h = absurd (let e = h.1 in cc)
+filled_at w (Some v) t h = subst (λ z. ValueHas w z t) (sym (some_is v h.0 h.1)) h.2
+
+fills_typed : (w : World) (s : Surroundings) (σ : Names) → Typed w s σ → Fills w s σ no_surroundings
+fills_typed w s σ k = record { at = λ y t e. filled_at w (σ y) t (k.at y t e) }
+
+-- the types of top values, at a stage
+pub record TopsTyped (w : World) (q : Stage) (tops : List Value) : Type 0 where
+  pub at : (n : ℕ) (t : Ground) → w.tops n t → (v : Value) × (slice_get tops n ≡ Some v) × ValueHas (at_stage q w) v t
+
+module _ (w : World) (l : HasLibrary w) where
+  -- the same library at each stage
+  pub library_at : (q : Stage) → HasLibrary (at_stage q w)
+  library_at None = l
+  library_at (Some qs) = record { own = l.own; first = l.first }
+
+  tops_later : (q r : Stage) (tops : List Value) → Grows w q r → TopsTyped w q tops → TopsTyped w r tops
+  tops_later q r tops g k = record { at = λ n t e. (let p = k.at n t e in (p.0, p.1, value_later w q r p.0 t g p.2)) }
+
+  term_later : (q r : Stage) (e : Tree) (s : Surroundings) (t : Ground) → Grows w q r → TermHas (at_stage q w) s e t → TermHas (at_stage r w) s e t
+  term_later q r e s t g h = term_more (at_stage q w) (at_stage r w) (stages_below w q r g) e s s (same_within s) t h
+
+  -- proper types, at each stage
+
+  function_sorts : (q : Stage) (u t : Ground) → IsProper (at_stage q w) (Ground.Function u t) → MayStandIn w u t
+  function_sorts None u t p = p.sorted.2
+  function_sorts (Some qs) u t p = p.sorted.2
+
+  tuple_sorts : (q : Stage) (ts : Grounds) → IsProper (at_stage q w) (Ground.Tuple ts) → AreSimple w.sorts ts
+  tuple_sorts None ts p = p.sorted
+  tuple_sorts (Some qs) ts p = p.sorted
+
+  list_sorts : (q : Stage) (t : Ground) → IsProper (at_stage q w) (list_of t) → sort_of w.sorts t ≡ Simple
+  list_sorts None t p = p.sorted.1
+  list_sorts (Some qs) t p = p.sorted.1
+
+  record_sorts : (q : Stage) (r : Row) → IsProper (at_stage q w) (Ground.Record r) → HasSimpleFields w.sorts r
+  record_sorts None r p = p.sorted
+  record_sorts (Some qs) r p = p.sorted
+
+  stands_at : (q : Stage) (u t : Ground) → MayStandIn (at_stage q w) u t → MayStandIn w u t
+  stands_at None u t h = h
+  stands_at (Some qs) u t h = h
+
+  fits_at : (q : Stage) (p : CorePattern) (t : Ground) (b : Bound) → Fits (at_stage q w).unions p t b → Fits w.unions p t b
+  fits_at None p t b h = h
+  fits_at (Some qs) p t b h = h
+
+  -- values at a stage
+
+  returns_safe : (t : Ground) (v : Value) (s : State) → ValueHas (at_stage s.stage w) v t → IsSafe w s.stage t (Returns v s)
+  returns_safe t v s h = (grows_same w s.stage, h, λ d. refl)
+
+  there_safe : (t : Ground) (o : Option Value) (s : State) → ((v : Value) × (o ≡ Some v) × ValueHas (at_stage s.stage w) v t) → IsSafe w s.stage t (value_or_none o s)
+  there_safe t None s h = absurd (let d = h.1 in cc)
+  there_safe t (Some v) s h = returns_safe t v s (subst (λ z. ValueHas (at_stage s.stage w) z t) (sym (some_is v h.0 h.1)) h.2)
+
+  spend_safe : (b : Bool) (n : ℕ) (s : State) (t : Ground) (go : State → Ending) → IsSafe w s.stage t (go (with_left (s.left - n) s)) → IsSafe w s.stage t (spend_where b n s go)
+  spend_safe true n s t go h = h
+  spend_safe false n s t go h = grows_same w s.stage
+
+  truth_safe : (v : Value) (s : State) (t : Ground) (go other : State → Ending) → ValueHas (at_stage s.stage w) v bool → IsSafe w s.stage t (go s) → IsSafe w s.stage t (other s) → IsSafe w s.stage t (if_true (truth_of v) s go other)
+  truth_safe v s t go other h a b = bool_value (at_stage s.stage w) (library_at s.stage) v h (λ z. IsSafe w s.stage t (if_true (truth_of z) s go other)) a b
+
+  fits_safe : (o : Option Bindings) (b : Bound) (s : State) (t : Ground) (go : Bindings → State → Ending) → MatchHas (at_stage s.stage w) o b → ((bs : Bindings) → BindsHave (at_stage s.stage w) bs b → IsSafe w s.stage t (go bs s)) → IsSafe w s.stage t (where_fits o s go)
+  fits_safe None b s t go h f = grows_same w s.stage
+  fits_safe (Some bs) b s t go h f = f bs h
+
+  branch_safe : (o : Option Bindings) (b : Bound) (s : State) (t : Ground) (go : Bindings → State → Ending) (other : State → Ending) → MatchHas (at_stage s.stage w) o b → ((bs : Bindings) → BindsHave (at_stage s.stage w) bs b → IsSafe w s.stage t (go bs s)) → IsSafe w s.stage t (other s) → IsSafe w s.stage t (if_fits o s go other)
+  branch_safe None b s t go other h f g = g
+  branch_safe (Some bs) b s t go other h f g = f bs h
+
+  -- nodes
+
+  add_at : (q : Stage) (equation : Equation) (s : State) (t value : Ground) → s.stage ≡ q → t ≡ signal_of value → ((qs : List Equation) → q ≡ Some qs → EquationHas (at_equations qs w) equation value) → IsSafe w q t (add_behind q equation s)
+  add_at None equation s t value i e f = (refl, ap (sort_of w.sorts) e)
+  add_at (Some qs) equation s t value i e f = limited (nat_lt (length qs) 4096) (f qs refl)
+    where
+      not_simple : sort_of w.sorts t ≡ Simple → (Some (qs ++ equation ∷ [])) ≡ Some qs
+      not_simple d = absurd (let j : Signal ≡ Simple = sym (ap (sort_of w.sorts) e) ∙ d in cc)
+      limited : (b : Bool) → EquationHas (at_equations qs w) equation value → IsSafe w (Some qs) t (if b then Returns (SignalValue (length qs)) (with_equations (qs ++ equation ∷ []) s) else Stops fault.TooManyNodes s)
+      limited true h = ((equation ∷ [], refl, order_added w qs equation value h), (value, e, node_added w qs equation value h), not_simple)
+      limited false h = subst (Grows w (Some qs)) (sym i) (grows_same w (Some qs))
+
+  add_safe : (equation : Equation) (s : State) (t value : Ground) → t ≡ signal_of value → ((qs : List Equation) → s.stage ≡ Some qs → EquationHas (at_equations qs w) equation value) → IsSafe w s.stage t (add_node equation s)
+  add_safe equation s t value e f = add_at s.stage equation s t value refl e f
+
+  input_has : (qs : List Equation) (n : ℕ) (value : Ground) → slice_get w.inputs n ≡ Some value → EquationHas (at_equations qs w) (Equation.Input n) value
+  input_has qs n value e = subst (λ z. slice_get z n ≡ Some value) (stage_below w qs).alike.inputs e
+
+  inputs_at : (q : Stage) (n : ℕ) (value : Ground) → slice_get (at_stage q w).inputs n ≡ Some value → slice_get w.inputs n ≡ Some value
+  inputs_at None n value e = e
+  inputs_at (Some qs) n value e = e
+
+  -- natives and constructors
+
+  answered_safe : (t : Ground) (a : Answer) (s : State) → GivesTyped (at_stage s.stage w) t a → IsSafe w s.stage t (answered a s)
+  answered_safe t (Gives v) s h = returns_safe t v s h
+  answered_safe t (Faults x) s h = grows_same w s.stage
+  answered_safe t Answer.NoRule s h = absurd h
+
+  call_has : (v : World) (q : Equation) (c : NativeCall) (value : Ground) → call_of q ≡ Some c → CallGives v (Some c) (signal_of value) → EquationHas v q value
+  call_has v (Equation.Input n) c value e h = absurd cc
+  call_has v (Equation.Constant x) c value e h = subst (λ z. CallGives v z (signal_of value)) (sym e) h
+  call_has v (Equation.Map f ns) c value e h = subst (λ z. CallGives v z (signal_of value)) (sym e) h
+  call_has v (Equation.Foldp f x n) c value e h = subst (λ z. CallGives v z (signal_of value)) (sym e) h
+  call_has v (Equation.Merge m n) c value e h = subst (λ z. CallGives v z (signal_of value)) (sym e) h
+  call_has v (Equation.Filter f x n) c value e h = subst (λ z. CallGives v z (signal_of value)) (sym e) h
+  call_has v (Equation.FilterMap f x n) c value e h = subst (λ z. CallGives v z (signal_of value)) (sym e) h
+  call_has v (Equation.DropRepeats n) c value e h = subst (λ z. CallGives v z (signal_of value)) (sym e) h
+  call_has v (Equation.SampleOn m n) c value e h = subst (λ z. CallGives v z (signal_of value)) (sym e) h
+  call_has v (Equation.Async n) c value e h = subst (λ z. CallGives v z (signal_of value)) (sym e) h
+
+  made_safe : (n : ℕ) (vs : Values) (o : Option Equation) (s : State) (t whole : Ground) → MakesTyped n t vs o → CalleeGives (at_stage s.stage w) (callee.Native n) whole → AreTaken (at_stage s.stage w) vs whole t → IsSafe w s.stage t (made_node o s)
+  made_safe n vs None s t whole m c h = absurd m
+  made_safe n vs (Some q) s t whole m c h =
+      add_safe q s t m.1 m.2
+      (λ qs e. call_has (at_equations qs w) q (n, vs) m.1 m.0
+      (
+        whole,
+        callee_more (at_stage (Some qs) w) (at_equations qs w) (stage_below w qs) (callee.Native n) whole (subst (λ z. CalleeGives (at_stage z w) (callee.Native n) whole) e c),
+        taken_more (at_stage (Some qs) w) (at_equations qs w) (stage_below w qs) vs no_surroundings whole (signal_of m.1)
+        (subst (λ z. AreTaken (at_stage (Some qs) w) vs whole z) m.2 (subst (λ z. AreTaken (at_stage z w) vs whole t) e h)),
+      ))
+
+  -- some arguments are lacking
+  lacking_safe : (c : Callee) (vs : Values) (s : State) (t whole : Ground) → CalleeGives (at_stage s.stage w) c whole → AreTaken (at_stage s.stage w) vs whole t → number_of vs < takes c → IsSafe w s.stage t (Returns (Applicable (Partial c vs)) s)
+  lacking_safe c vs s t whole g h k = returns_safe t (Applicable (Partial c vs)) s (whole, g, h, k)
+
+  native_safe : (o : Option Native) (n : ℕ) (vs : Values) (m : ℕ) (s : State) (t whole : Ground) → native_at n ≡ o → number_of vs ≡ suc m → m < takes_of o → CalleeGives (at_stage s.stage w) (callee.Native n) whole → AreTaken (at_stage s.stage w) vs whole t → IsSafe w s.stage t (native_given o (callee.Native n) vs s)
+  native_safe None n vs m s t whole e d k c h = absurd (omega (arith, k))
+  native_safe (Some (IsValue v)) n vs m s t whole e d k c h = absurd (omega (arith, k))
+  native_safe (Some (Replies p reply)) n vs m s t whole e d k c h = all_given (number_of vs == p) refl
+    where
+      g : NativeGives n whole
+      g = c.0
+      safe : number_of vs ≡ p → GivesTyped (at_stage s.stage w) t (reply (listed_values vs)).answer
+      safe i =
+          safe_native (at_stage s.stage w) (library_at s.stage) n (Replies p reply) g.0 e g.1 g.2.0 t vs g.2.1
+          (subst (λ z. AreTaken (at_stage s.stage w) vs z t) g.2.2 h) i
+      all_given : (b : Bool) → (number_of vs == p) ≡ b → IsSafe w s.stage t (where_all b (callee.Native n) vs s (replied (reply (listed_values vs)) s))
+      all_given true i = (let r = reply (listed_values vs) in spend_safe (nat_le r.work s.left) r.work s t (λ u. answered r.answer (with_notes r.notes u)) (answered_safe t r.answer (with_notes r.notes (with_left (s.left - r.work) s)) (safe (eqb-true (number_of vs) p i))))
+      all_given false i =
+          lacking_safe (callee.Native n) vs s t whole c h
+          (subst (λ z. number_of vs < takes_of z) (sym e) (subst (λ z. z < p) (sym d) (fits_less m p k (subst (λ z. (z == p) ≡ false) d i))))
+  native_safe (Some (MakesNode p equation)) n vs m s t whole e d k c h = all_given (number_of vs == p) refl
+    where
+      g : NativeGives n whole
+      g = c.0
+      all_given : (b : Bool) → (number_of vs == p) ≡ b → IsSafe w s.stage t (where_all b (callee.Native n) vs s (made_node (equation (listed_values vs)) s))
+      all_given true i =
+          made_safe n vs (equation (listed_values vs)) s t whole
+          (safe_native (at_stage s.stage w) (library_at s.stage) n (MakesNode p equation) g.0 e g.1 g.2.0 t vs g.2.1
+          (subst (λ z. AreTaken (at_stage s.stage w) vs z t) g.2.2 h) (eqb-true (number_of vs) p i)) c h
+      all_given false i =
+          lacking_safe (callee.Native n) vs s t whole c h
+          (subst (λ z. number_of vs < takes_of z) (sym e) (subst (λ z. z < p) (sym d) (fits_less m p k (subst (λ z. (z == p) ≡ false) d i))))
+
+  -- what a constructor makes
+
+  consed : (v : World) (vs : Values) (e t : Ground) → number_of vs ≡ 2 → AreTaken v vs (Ground.Function e (Ground.Function (list_of e) (list_of e))) t → (name : List ℕ) → bytes_eq name (codes "::") ≡ true → ValueHas v (constructed name vs) t
+  consed v NoValues e t n h name b = absurd cc
+  consed v (AndValue x NoValues) e t n h name b = absurd cc
+  consed v (AndValue x (AndValue y (AndValue z zs))) e t n h name b = absurd cc
+  consed v (AndValue x (AndValue y NoValues)) e t n h name b =
+      subst (λ c. ValueHas v (if c then Cons x y else Made name (AndValue x (AndValue y NoValues))) t) (sym b) (e, h.1.1, h.0, h.1.0)
+
+  not_consed : (vs : Values) (name : List ℕ) → bytes_eq name (codes "::") ≡ false → constructed name vs ≡ Made name vs
+  not_consed NoValues name b = refl
+  not_consed (AndValue x NoValues) name b = refl
+  not_consed (AndValue x (AndValue y NoValues)) name b = ap (λ c. if c then Cons x y else Made name (AndValue x (AndValue y NoValues))) b
+  not_consed (AndValue x (AndValue y (AndValue z zs))) name b = refl
+
+  constructed_has : (v : World) (b : Bool) (name : List ℕ) (n : ℕ) (vs : Values) (t whole : Ground) → bytes_eq name (codes "::") ≡ b → number_of vs ≡ n → GivesWhere b v.unions None name n whole → IsProper v whole → AreTaken v vs whole t → ValueHas v (constructed name vs) t
+  constructed_has v true name n vs t whole b d g p h = consed v vs g.1 t (d ∙ g.0) (subst (λ z. AreTaken v vs z t) g.2 h) name b
+  constructed_has v false name n vs t whole b d g p h =
+      subst (λ z. ValueHas v z t) (sym (not_consed vs name b)) (whole, subst (λ z. UnionGives v.unions None name z whole) (sym d) g, p, h)
+
+  given_safe : (c : Callee) (vs : Values) (m : ℕ) (s : State) (t whole : Ground) → number_of vs ≡ suc m → m < takes c → CalleeGives (at_stage s.stage w) c whole → AreTaken (at_stage s.stage w) vs whole t → IsSafe w s.stage t (given c vs s)
+  given_safe (callee.Native n) vs m s t whole d k c h = native_safe (native_at n) n vs m s t whole refl d k c h
+  given_safe (callee.Constructor name p) vs m s t whole d k c h = all_given (number_of vs == p) refl
+    where
+      all_given : (b : Bool) → (number_of vs == p) ≡ b → IsSafe w s.stage t (where_all b (callee.Constructor name p) vs s (Returns (constructed name vs) s))
+      all_given true i =
+          returns_safe t (constructed name vs) s
+          (constructed_has (at_stage s.stage w) (bytes_eq name (codes "::")) name p vs t whole refl (eqb-true (number_of vs) p i) c.0 c.1 h)
+      all_given false i =
+          lacking_safe (callee.Constructor name p) vs s t whole c h
+          (subst (λ z. z < p) (sym d) (fits_less m p k (subst (λ z. (z == p) ≡ false) d i)))
