@@ -8,6 +8,7 @@ use Rattle.elm_typing.specs.Ground.{Ground, Grounds, Row, NoGrounds, AndGround, 
 use Rattle.elm_typing.specs.Names.{list_of, signal_of}
 use Rattle.elm_typing.specs.Sorts.{Sort, Simple, Signal, sort_of, IsAtMost, IsWellSorted, AreSimple, HasSimpleFields}
 use Rattle.elm_typing.specs.Spelling.{int, bool}
+use Rattle.elm_typing.specs.Rows as rows
 use Rattle.elm_meaning.specs.declared.callee.Callee.{Callee}
 use Rattle.elm_meaning.specs.declared.callee.Callee.TheVariants as callee
 use Rattle.elm_meaning.specs.Patterns.{Pattern}
@@ -99,6 +100,12 @@ fills_typed w s σ k = record { at = λ y t e. filled_at w (σ y) t (k.at y t e)
 -- the types of top values, at a stage
 pub record TopsTyped (w : World) (q : Stage) (tops : List Value) : Type 0 where
   pub at : (n : ℕ) (t : Ground) → w.tops n t → (v : Value) × (slice_get tops n ≡ Some v) × ValueHas (at_stage q w) v t
+
+arguments_same : (u t a r : Ground) → Ground.Function u t ≡ Ground.Function a r → u ≡ a
+arguments_same u t a r e = cc
+
+results_same : (u t a r : Ground) → Ground.Function u t ≡ Ground.Function a r → t ≡ r
+results_same u t a r e = cc
 
 module _ (w : World) (l : HasLibrary w) where
   -- the same library at each stage
@@ -279,3 +286,108 @@ module _ (w : World) (l : HasLibrary w) where
       all_given false i =
           lacking_safe (callee.Constructor name p) vs s t whole c h
           (subst (λ z. z < p) (sym d) (fits_less m p k (subst (λ z. (z == p) ≡ false) d i)))
+
+  -- lists and ranges
+
+  abbrev EachIs : World → Values → Ground → Type 0
+  EachIs v NoValues t = Unit {0}
+  EachIs v (AndValue x xs) t = ValueHas v x t × EachIs v xs t
+
+  listed_has : (v : World) (vs : Values) (t : Ground) → EachIs v vs t → ValueHas v (listed vs) (list_of t)
+  listed_has v NoValues t h = (t, refl)
+  listed_has v (AndValue x xs) t h = (t, refl, h.0, listed_has v xs t h.1)
+
+  numbers_have : (v : World) (n : ℕ) (a : ℤ) → ValueHas v (numbers_from n a) (list_of int)
+  numbers_have v zero a = (int, refl)
+  numbers_have v (suc n) a = (int, refl, refl, numbers_have v n (a +ℤ pos 1))
+
+  ranged_safe : (x y : Value) (s : State) → ValueHas (at_stage s.stage w) x int → ValueHas (at_stage s.stage w) y int → IsSafe w s.stage (list_of int) (ranged x y s)
+  ranged_safe x y s h k =
+      let p = int_value (at_stage s.stage w) (library_at s.stage) x h in
+      let q = int_value (at_stage s.stage w) (library_at s.stage) y k in
+      subst (λ z. IsSafe w s.stage (list_of int) (ranged z y s)) (sym p.1) (subst (λ z. IsSafe w s.stage (list_of int) (ranged (Int p.0) z s)) (sym q.1) (numbers p.0 q.0))
+    where
+      numbers : (a b : ℤ) → IsSafe w s.stage (list_of int) (ranged (Int a) (Int b) s)
+      numbers a b =
+          spend_safe (nat_le (range_length (b -ℤ a)) s.left) (range_length (b -ℤ a)) s (list_of int) _
+          (returns_safe (list_of int) (numbers_from (range_length (b -ℤ a)) a) (with_left (s.left - range_length (b -ℤ a)) s) (numbers_have (at_stage s.stage w) (range_length (b -ℤ a)) a))
+
+  -- records
+
+  record_safe : (o : Option Fields) (s : State) (r : Row) → ((fs : Fields) × (o ≡ Some fs) × FieldsHave (at_stage s.stage w) fs r) → IsSafe w s.stage (Ground.Record r) (record_or_none o s)
+  record_safe None s r h = absurd (let d = h.1 in cc)
+  record_safe (Some fs) s r h =
+      returns_safe (Ground.Record r) (Record fs) s (r, refl, subst (λ z. FieldsHave (at_stage s.stage w) z r) (sym (some_is fs h.0 h.1)) h.2)
+
+  extended_safe : (x : Value) (new : List (List ℕ × Value)) (s : State) (before r : Row) → ValueHas (at_stage s.stage w) x (Ground.Record before) → PutHave (at_stage s.stage w) new before r → IsSafe w s.stage (Ground.Record r) (extended x new s)
+  extended_safe x new s before r h k =
+      let p = record_value (at_stage s.stage w) (library_at s.stage) x before h in
+      subst (λ z. IsSafe w s.stage (Ground.Record r) (extended z new s)) (sym p.1)
+      (returns_safe (Ground.Record r) (Record (put_all new p.0)) s (r, refl, put_all_has (at_stage s.stage w) new before r p.0 k p.2))
+
+  updated_safe : (x : Value) (new : List (List ℕ × Value)) (s : State) (r : Row) → ValueHas (at_stage s.stage w) x (Ground.Record r) → SetHave (at_stage s.stage w) new r → IsSafe w s.stage (Ground.Record r) (updated x new s)
+  updated_safe x new s r h k =
+      let p = record_value (at_stage s.stage w) (library_at s.stage) x r h in
+      subst (λ z. IsSafe w s.stage (Ground.Record r) (updated z new s)) (sym p.1)
+      (record_safe (set_all new p.0) s r (set_all_has (at_stage s.stage w) new r p.0 k p.2))
+
+  removed_safe : (x : Value) (label : List ℕ) (s : State) (before r : Row) → ValueHas (at_stage s.stage w) x (Ground.Record before) → rows.removed label before ≡ Some r → IsSafe w s.stage (Ground.Record r) (removed x label s)
+  removed_safe x label s before r h e =
+      let p = record_value (at_stage s.stage w) (library_at s.stage) x before h in
+      subst (λ z. IsSafe w s.stage (Ground.Record r) (removed z label s)) (sym p.1)
+      (record_safe (record_of.remove_field label p.0) s r (remove_field_has (at_stage s.stage w) label p.0 before r e p.2))
+
+  field_safe : (x : Value) (label : List ℕ) (s : State) (r : Row) (t : Ground) → ValueHas (at_stage s.stage w) x (Ground.Record r) → rows.newest label r ≡ Some t → IsSafe w s.stage t (field_of x label s)
+  field_safe x label s r t h e =
+      let p = record_value (at_stage s.stage w) (library_at s.stage) x r h in
+      subst (λ z. IsSafe w s.stage t (field_of z label s)) (sym p.1)
+      (there_safe t (record_of.newest label p.0) s (newest_has (at_stage s.stage w) label p.0 r t p.2 e))
+
+  -- a record form's own type
+  as_record : (q : Stage) (t : Ground) (r : Row) (o : Ending) → t ≡ Ground.Record r → IsSafe w q (Ground.Record r) o → IsSafe w q t o
+  as_record q t r o e h = subst (λ z. IsSafe w q z o) (sym e) h
+
+module _ (w : World) (l : HasLibrary w) (tops : List Value) (body : Bodies) where
+  abbrev pub SafeBodies : Type 1
+  SafeBodies = (e : Tree) (s : Surroundings) (σ : Names) (st : State) (t : Ground) → TopsTyped w st.stage tops → TermHas (at_stage st.stage w) s e t → Typed (at_stage st.stage w) s σ → IsSafe w st.stage t (body e σ st)
+
+  module _ (fine : SafeBodies) where
+    -- calls
+
+    lambda_safe : (p : Pattern) (b : Tree) (s : Surroundings) (σ : Names) (x : Value) (st : State) (u t : Ground) → TopsTyped w st.stage tops → Abstracted (at_stage st.stage w) (core_pattern p) (λ r. TermHas (at_stage st.stage w) r b) s (Ground.Function u t) → Typed (at_stage st.stage w) s σ → ValueHas (at_stage st.stage w) x u → IsSafe w st.stage t (where_fits (matching p x) st (λ bindings r. body b (bind_all bindings σ) r))
+    lambda_safe p b s σ x st u t T h k v =
+        let a : u ≡ h.0 = arguments_same u t h.0 h.1 h.2 in
+        let d : h.1 ≡ t = sym (results_same u t h.0 h.1 h.2) in
+        let f = h.3 in
+        fits_safe w l (matching p x) f.0 st t (λ bindings r. body b (bind_all bindings σ) r)
+        (match_has (at_stage st.stage w) p x h.0 f.0 f.1 (subst (ValueHas (at_stage st.stage w) x) a v))
+        (λ bs i. subst (λ z. IsSafe w st.stage z (body b (bind_all bs σ) st)) d (fine b (with_bound f.0 s) (bind_all bs σ) st h.1 T f.2 (typed_bound (at_stage st.stage w) bs f.0 s σ i k)))
+
+    member_safe : (i : ℕ) (all : Group) (s : Surroundings) (g : Group) (ts : List Ground) (x : Value) (st : State) (u t : Ground) → TopsTyped w st.stage tops → EachFunctionHas (at_stage st.stage w) s g ts → type_at ts i ≡ Some (Ground.Function u t) → Typed (at_stage st.stage w) s (bind_group all no_names) → ValueHas (at_stage st.stage w) x u → IsSafe w st.stage t (member_entered body i all g x st)
+    member_safe i all s NoFunctions [] x st u t T h e k v = absurd cc
+    member_safe i all s NoFunctions (y ∷ ts) x st u t T h e k v = absurd h
+    member_safe i all s (AndFunction name p b g) [] x st u t T h e k v = absurd h
+    member_safe zero all s (AndFunction name p b g) (y ∷ ts) x st u t T h e k v =
+        let d : y ≡ Ground.Function u t = cc in
+        lambda_safe p b s (bind_group all no_names) x st u t T (subst (Abstracted (at_stage st.stage w) (core_pattern p) (λ r. TermHas (at_stage st.stage w) r b) s) d h.0.1) k v
+    member_safe (suc i) all s (AndFunction name p b g) (y ∷ ts) x st u t T h e k v = member_safe i all s g ts x st u t T h.1 e k v
+
+    entered_safe : (f x : Value) (st : State) (u t : Ground) → TopsTyped w st.stage tops → ValueHas (at_stage st.stage w) f (Ground.Function u t) → ValueHas (at_stage st.stage w) x u → IsSafe w st.stage t (entered body f x st)
+    entered_safe f x st u t T h v =
+        let p = function_value (at_stage st.stage w) (library_at w l st.stage) f u t h in
+        subst (λ z. IsSafe w st.stage t (entered body z x st)) (sym p.1) (applied_safe p.0 (subst (λ z. ValueHas (at_stage st.stage w) z (Ground.Function u t)) p.1 h))
+      where
+        applied_safe : (f : Function) → FunctionHas (at_stage st.stage w) f (Ground.Function u t) → IsSafe w st.stage t (entered body (Applicable f) x st)
+        applied_safe (Closure p b) h = lambda_safe p b no_surroundings no_names x st u t T h (typed_nothing (at_stage st.stage w)) v
+        applied_safe (Member i g) h =
+            let v0 = at_stage st.stage w in
+            let ts = h.0 in
+            member_safe i g (under_work (function_names g) ts no_surroundings) g ts x st u t T h.1 h.2
+            (typed_less v0 (under_work (function_names g) ts no_surroundings) (generalised (function_names g) 0 (GroupHas v0 no_surroundings g) no_surroundings) (bind_group g no_names)
+            (work_given (function_names g) ts 0 (GroupHas v0 no_surroundings g) ts no_surroundings no_surroundings (paired v0 _ g ts h.1) h.1 (λ j y e. let z : 0 + j ≡ j = omega arith in ap (type_at ts) z ∙ e) (same_within no_surroundings))
+            (typed_group v0 g 0 g (GroupHas v0 no_surroundings g) no_surroundings no_names (λ ts k. k) (typed_nothing v0))) v
+        applied_safe (Partial c vs) h =
+            given_safe w l c (with_argument vs x) (number_of vs) st t h.0 (one_more_number vs x) h.3 h.1 (one_more_taken (at_stage st.stage w) vs x h.0 u t h.2 v)
+
+    apply_safe : (f x : Value) (st : State) (u t : Ground) → TopsTyped w st.stage tops → ValueHas (at_stage st.stage w) f (Ground.Function u t) → ValueHas (at_stage st.stage w) x u → IsSafe w st.stage t (apply body f x st)
+    apply_safe f x st u t T h v = spend_safe w l (nat_le 1 st.left) 1 st t (λ r. entered body f x r) (entered_safe f x (with_left (st.left - 1) st) u t T h v)
