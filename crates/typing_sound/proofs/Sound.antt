@@ -33,7 +33,7 @@ use Rattle.typing_rules.specs.Nodes.{NativeCall, CallGives, call_of, EquationHas
 use Rattle.typing_sound.specs.Safe.{HasLibrary, GivesTyped, MakesTyped}
 use Rattle.typing_sound.specs.SafeEndings.{at_stage, Grows, IsSafe}
 use Rattle.typing_sound.proofs.Combine.{Sub, Within, same, same_within, Alike}
-use Rattle.typing_sound.proofs.Monotone.{Below, callee_more, taken_more, value_more, values_more, term_more}
+use Rattle.typing_sound.proofs.Monotone.{Below, callee_more, taken_more, value_more, values_more, term_more, all_more, each_more, guards_more, branches_more, over_more, newest_more}
 use Rattle.typing_sound.proofs.Filled.{Fills, FillsAt, Paired, paired, fills_work, filled_names, functions_filled, term_filled}
 use Rattle.typing_sound.proofs.Bound.{some_is, same_bytes, BindsHave, MatchHas, match_has, newest_has, Typed, typed_nothing, typed_name, typed_less, typed_bound, typed_group, work_given}
 use Rattle.typing_sound.proofs.Canonical.{bool_value, int_value, record_value, function_value}
@@ -391,3 +391,171 @@ module _ (w : World) (l : HasLibrary w) (tops : List Value) (body : Bodies) wher
 
     apply_safe : (f x : Value) (st : State) (u t : Ground) → TopsTyped w st.stage tops → ValueHas (at_stage st.stage w) f (Ground.Function u t) → ValueHas (at_stage st.stage w) x u → IsSafe w st.stage t (apply body f x st)
     apply_safe f x st u t T h v = spend_safe w l (nat_le 1 st.left) 1 st t (λ r. entered body f x r) (entered_safe f x (with_left (st.left - 1) st) u t T h v)
+
+    -- parts of terms
+
+    tops_on : (st r : State) → Grows w st.stage r.stage → TopsTyped w st.stage tops → TopsTyped w r.stage tops
+    tops_on st r g T = tops_later w l st.stage r.stage tops g T
+
+    typed_on : (st r : State) (s : Surroundings) (σ : Names) → Grows w st.stage r.stage → Typed (at_stage st.stage w) s σ → Typed (at_stage r.stage w) s σ
+    typed_on st r s σ g k = typed_later w st.stage r.stage s σ g k
+
+    tops_at : (q : Stage) (n : ℕ) (t : Ground) → (at_stage q w).tops n t → w.tops n t
+    tops_at None n t h = h
+    tops_at (Some qs) n t h = h
+
+    fits_on : (q r : Stage) (p : CorePattern) (t : Ground) (b : Bound) → Fits (at_stage q w).unions p t b → Fits (at_stage r w).unions p t b
+    fits_on None None p t b h = h
+    fits_on None (Some qs) p t b h = h
+    fits_on (Some qs) None p t b h = h
+    fits_on (Some qs) (Some rs) p t b h = h
+
+    on : (st r : State) → Grows w st.stage r.stage → Below (at_stage st.stage w) (at_stage r.stage w)
+    on st r g = stages_below w st.stage r.stage g
+
+    named_safe : (x : ℕ) (e d : Tree) (s : Surroundings) (σ : Names) (st : State) (t : Ground) → TopsTyped w st.stage tops → NamedValue (at_stage st.stage w) x (λ r. TermHas (at_stage st.stage w) r e) (λ r. TermHas (at_stage st.stage w) r d) s t → Typed (at_stage st.stage w) s σ → ((u : Ground) → TermHas (at_stage st.stage w) s e u → IsSafe w st.stage u (with_bodies tops body e σ st)) → ((z : Surroundings) (ρ : Names) (r : State) (u : Ground) → TopsTyped w r.stage tops → TermHas (at_stage r.stage w) z d u → Typed (at_stage r.stage w) z ρ → IsSafe w r.stage u (with_bodies tops body d ρ r)) → IsSafe w st.stage t (with_bodies tops body (LetValue (Pattern.Local x) e d) σ st)
+    named_safe x e d s σ st t T h k f g =
+        then_all w st.stage (TermHas (at_stage st.stage w) s e) h.0 t (with_bodies tops body e σ st) _ h.1 (stands_at w l st.stage h.0 t h.2) f
+        (λ v r i j. g (with_name x (TermHas (at_stage st.stage w) s e) s) (bind x v σ) r t (tops_on st r i T) (term_later w l st.stage r.stage d (with_name x (TermHas (at_stage st.stage w) s e) s) t i h.3)
+        (typed_name (at_stage r.stage w) x (TermHas (at_stage st.stage w) s e) v s σ j (typed_on st r s σ i k)))
+
+    taken_safe : (p : Pattern) (e d : Tree) (s : Surroundings) (σ : Names) (st : State) (t : Ground) → TopsTyped w st.stage tops → TakenApart (at_stage st.stage w) (core_pattern p) (λ r. TermHas (at_stage st.stage w) r e) (λ r. TermHas (at_stage st.stage w) r d) s t → Typed (at_stage st.stage w) s σ → ((u : Ground) → TermHas (at_stage st.stage w) s e u → IsSafe w st.stage u (with_bodies tops body e σ st)) → ((z : Surroundings) (ρ : Names) (r : State) (u : Ground) → TopsTyped w r.stage tops → TermHas (at_stage r.stage w) z d u → Typed (at_stage r.stage w) z ρ → IsSafe w r.stage u (with_bodies tops body d ρ r)) → IsSafe w st.stage t (with_bodies tops body (LetValue p e d) σ st)
+    taken_safe p e d s σ st t T h k f g =
+        then_one w st.stage h.0 t (with_bodies tops body e σ st) _ (stands_at w l st.stage h.0 t h.2) (f h.0 h.1)
+        (λ v r i j. fits_safe w l (matching p v) h.3.0 r t (λ bindings u. with_bodies tops body d (bind_all bindings σ) u)
+        (match_has (at_stage r.stage w) p v h.0 h.3.0 (fits_on st.stage r.stage (core_pattern p) h.0 h.3.0 h.3.1) j)
+        (λ bs b. g (with_bound h.3.0 s) (bind_all bs σ) r t (tops_on st r i T) (term_later w l st.stage r.stage d (with_bound h.3.0 s) t i h.3.2) (typed_bound (at_stage r.stage w) bs h.3.0 s σ b (typed_on st r s σ i k))))
+
+    defined_safe : (p : Pattern) (e d : Tree) (s : Surroundings) (σ : Names) (st : State) (t : Ground) → TopsTyped w st.stage tops → Defined (at_stage st.stage w) (core_pattern p) (λ r. TermHas (at_stage st.stage w) r e) (λ r. TermHas (at_stage st.stage w) r d) s t → Typed (at_stage st.stage w) s σ → ((u : Ground) → TermHas (at_stage st.stage w) s e u → IsSafe w st.stage u (with_bodies tops body e σ st)) → ((z : Surroundings) (ρ : Names) (r : State) (u : Ground) → TopsTyped w r.stage tops → TermHas (at_stage r.stage w) z d u → Typed (at_stage r.stage w) z ρ → IsSafe w r.stage u (with_bodies tops body d ρ r)) → IsSafe w st.stage t (with_bodies tops body (LetValue p e d) σ st)
+    defined_safe (Pattern.Local x) e d s σ st t T h k f g = named_safe x e d s σ st t T h k f g
+    defined_safe Pattern.Anything e d s σ st t T h k f g = taken_safe Pattern.Anything e d s σ st t T h k f g
+    defined_safe (Pattern.Literal v) e d s σ st t T h k f g = taken_safe (Pattern.Literal v) e d s σ st t T h k f g
+    defined_safe (Pattern.Made c ps) e d s σ st t T h k f g = taken_safe (Pattern.Made c ps) e d s σ st t T h k f g
+    defined_safe Pattern.Nil e d s σ st t T h k f g = taken_safe Pattern.Nil e d s σ st t T h k f g
+    defined_safe (Pattern.Cons a b) e d s σ st t T h k f g = taken_safe (Pattern.Cons a b) e d s σ st t T h k f g
+    defined_safe (Pattern.Tuple ps) e d s σ st t T h k f g = taken_safe (Pattern.Tuple ps) e d s σ st t T h k f g
+    defined_safe (Pattern.Fields ls) e d s σ st t T h k f g = taken_safe (Pattern.Fields ls) e d s σ st t T h k f g
+    defined_safe (Pattern.Named a n) e d s σ st t T h k f g = taken_safe (Pattern.Named a n) e d s σ st t T h k f g
+
+    -- the functions of a group stand for its names
+    group_env : (g : Group) (s : Surroundings) (σ : Names) (v : World) → Typed v s σ → Typed v (generalised (function_names g) 0 (GroupHas v s g) s) (bind_group (fill_group g (hide_group g σ)) σ)
+    group_env g s σ v k =
+        let all = fill_group g (hide_group g σ) in
+        subst (λ xs. Typed v (generalised xs 0 (GroupHas v s g) s) (bind_group all σ)) (filled_names g (hide_group g σ))
+        (typed_group v all 0 all (GroupHas v s g) s σ
+        (λ ts h. subst (λ xs. EachFunctionHas v (under_work xs ts no_surroundings) all ts) (sym (filled_names g (hide_group g σ)))
+        (functions_filled v g _ _ _ (fills_work v g ts s no_surroundings σ (paired v _ g ts h) (fills_typed v s σ k)) ts h)) k)
+
+    mutual
+      pub term_safe : (e : Tree) (s : Surroundings) (σ : Names) (st : State) (t : Ground) → TopsTyped w st.stage tops → TermHas (at_stage st.stage w) s e t → Typed (at_stage st.stage w) s σ → IsSafe w st.stage t (with_bodies tops body e σ st)
+      term_safe (Done v) s σ st t T h k = returns_safe w l t v st h.1
+      term_safe (Local y) s σ st t T h k = there_safe w l t (σ y) st (k.at y t h.1)
+      term_safe (Top n) s σ st t T h k = there_safe w l t (slice_get tops n) st (T.at n t (tops_at st.stage n t h.1))
+      term_safe (Input n) s σ st t T h k =
+          add_safe w l (Equation.Input n) st t h.1.0 h.1.2 (λ qs e. input_has w l qs n h.1.0 (inputs_at w l st.stage n h.1.0 h.1.1))
+      term_safe (Lambda p b) s σ st t T h k =
+          returns_safe w l t (Applicable (Closure p (fill b (hide_all (names_of p) σ)))) st
+          (term_filled (at_stage st.stage w) (Lambda p b) s no_surroundings σ (fills_typed (at_stage st.stage w) s σ k) t h).1
+      term_safe (Call f a) s σ st t T h k =
+          then_one w st.stage (Ground.Function h.1.0 t) t (with_bodies tops body f σ st) _ (at_most_itself w (sort_of w.sorts t)) (term_safe f s σ st (Ground.Function h.1.0 t) T h.1.1 k)
+          (λ v r g i. then_one w r.stage h.1.0 t (with_bodies tops body a σ r) _ (function_sorts w l st.stage h.1.0 t (proper_of (at_stage st.stage w) s f (Ground.Function h.1.0 t) h.1.1)) (term_safe a s σ r h.1.0 (tops_on st r g T) (term_later w l st.stage r.stage a s h.1.0 g h.1.2) (typed_on st r s σ g k))
+          (λ x u g2 j. apply_safe v x u h.1.0 t (tops_on st u (grows_then w st.stage r.stage u.stage g g2) T) (value_later w r.stage u.stage v (Ground.Function h.1.0 t) g2 i) j))
+      term_safe (If c y n) s σ st t T h k =
+          then_one w st.stage bool t (with_bodies tops body c σ st) _ (simple_at_most w Simple (sort_of w.sorts t) refl) (term_safe c s σ st bool T h.1.0 k)
+          (λ v r g i. truth_safe w l v r t _ _ i
+          (term_safe y s σ r t (tops_on st r g T) (term_later w l st.stage r.stage y s t g h.1.1) (typed_on st r s σ g k))
+          (term_safe n s σ r t (tops_on st r g T) (term_later w l st.stage r.stage n s t g h.1.2) (typed_on st r s σ g k)))
+      term_safe (Guards gs) s σ st t T h k = guards_safe gs s σ st t T h.1 k
+      term_safe (Case e bs) s σ st t T h k =
+          then_one w st.stage h.1.0 t (with_bodies tops body e σ st) _ (stands_at w l st.stage h.1.0 t h.1.2) (term_safe e s σ st h.1.0 T h.1.1 k)
+          (λ v r g i. branches_safe bs v h.1.0 s σ r t (tops_on st r g T) (branches_more (at_stage st.stage w) (at_stage r.stage w) (on st r g) bs s s (same_within s) h.1.0 t h.1.3) (typed_on st r s σ g k) i)
+      term_safe (LetValue p e d) s σ st t T h k =
+          defined_safe p e d s σ st t T h.1 k (λ u i. term_safe e s σ st u T i k) (λ z ρ r u T2 i k2. term_safe d z ρ r u T2 i k2)
+      term_safe (LetFunctions g d) s σ st t T h k =
+          term_safe d (generalised (function_names g) 0 (GroupHas (at_stage st.stage w) s g) s) (bind_group (fill_group g (hide_group g σ)) σ) st t T h.1.3 (group_env g s σ (at_stage st.stage w) k)
+      term_safe (TupleTree es) s σ st t T h k =
+          all_safe es s σ st h.1.0 t _ T h.1.2 (tuple_sorts w l st.stage h.1.0 (subst (IsProper (at_stage st.stage w)) h.1.1 h.0)) k
+          (λ vs r g i. returns_safe w l t (Tuple vs) r (h.1.0, h.1.1, i))
+      term_safe (ListTree es) s σ st t T h k =
+          each_safe es s σ st h.1.0 t _ T h.1.2 (list_sorts w l st.stage h.1.0 (subst (IsProper (at_stage st.stage w)) h.1.1 h.0)) k
+          (λ vs r g i. returns_safe w l t (listed vs) r (subst (ValueHas (at_stage r.stage w) (listed vs)) (sym h.1.1) (listed_has w l (at_stage r.stage w) vs h.1.0 i)))
+      term_safe (Range a b) s σ st t T h k =
+          subst (λ z. IsSafe w st.stage z (with_bodies tops body (Range a b) σ st)) (sym h.1.2)
+          (then_one w st.stage int (list_of int) (with_bodies tops body a σ st) _ tt (term_safe a s σ st int T h.1.0 k)
+          (λ v r g i. then_one w r.stage int (list_of int) (with_bodies tops body b σ r) _ tt (term_safe b s σ r int (tops_on st r g T) (term_later w l st.stage r.stage b s int g h.1.1) (typed_on st r s σ g k))
+          (λ x u g2 j. ranged_safe w l v x u (value_later w r.stage u.stage v int g2 i) j)))
+      term_safe (RecordTree fs) s σ st t T h k =
+          fields_safe fs s σ st (Ends None) h.1.0 t _ T h.1.2 (record_sorts w l st.stage h.1.0 (subst (IsProper (at_stage st.stage w)) h.1.1 h.0)) k
+          (λ new r g i. returns_safe w l t (Record (put_all new NoFields)) r (h.1.0, h.1.1, put_all_has (at_stage r.stage w) new (Ends None) h.1.0 NoFields i refl))
+      term_safe (Update e fs) s σ st t T h k =
+          then_one w st.stage t t (with_bodies tops body e σ st) _ (at_most_itself w (sort_of w.sorts t)) (term_safe e s σ st t T h.1.2 k)
+          (λ v r g i. newest_safe fs s σ r h.1.0 t _ (tops_on st r g T) (newest_more (at_stage st.stage w) (at_stage r.stage w) (on st r g) fs s s (same_within s) h.1.0 h.1.3) (record_sorts w l st.stage h.1.0 (subst (IsProper (at_stage st.stage w)) h.1.1 h.0)) (typed_on st r s σ g k)
+          (λ new u g2 j. as_record w l u.stage t h.1.0 (updated v new u) h.1.1 (updated_safe w l v new u h.1.0 (subst (ValueHas (at_stage u.stage w) v) h.1.1 (value_later w r.stage u.stage v t g2 i)) j)))
+      term_safe (Extend e fs) s σ st t T h k =
+          then_one w st.stage (Ground.Record h.1.0) t (with_bodies tops body e σ st) _ tt (term_safe e s σ st (Ground.Record h.1.0) T h.1.3 k)
+          (λ v r g i. fields_safe fs s σ r h.1.0 h.1.1 t _ (tops_on st r g T) (over_more (at_stage st.stage w) (at_stage r.stage w) (on st r g) fs s s (same_within s) h.1.0 h.1.1 h.1.4) (record_sorts w l st.stage h.1.1 (subst (IsProper (at_stage st.stage w)) h.1.2 h.0)) (typed_on st r s σ g k)
+          (λ new u g2 j. as_record w l u.stage t h.1.1 (extended v new u) h.1.2 (extended_safe w l v new u h.1.0 h.1.1 (value_later w r.stage u.stage v (Ground.Record h.1.0) g2 i) j)))
+      term_safe (Remove e label) s σ st t T h k =
+          then_one w st.stage (Ground.Record h.1.0) t (with_bodies tops body e σ st) _ tt (term_safe e s σ st (Ground.Record h.1.0) T h.1.3 k)
+          (λ v r g i. as_record w l r.stage t h.1.1 (removed v label r) h.1.2 (removed_safe w l v label r h.1.0 h.1.1 i h.1.4))
+      term_safe (Field e label) s σ st t T h k =
+          then_one w st.stage (Ground.Record h.1.0) t (with_bodies tops body e σ st) _ tt (term_safe e s σ st (Ground.Record h.1.0) T h.1.1 k)
+          (λ v r g i. field_safe w l v label r h.1.0 t i h.1.2)
+      term_safe NoTree s σ st t T h k = absurd h.1
+
+      all_safe : (es : Trees) (s : Surroundings) (σ : Names) (st : State) (ts : Grounds) (t : Ground) (go : Values → State → Ending) → TopsTyped w st.stage tops → AllHave (at_stage st.stage w) s es ts → AreSimple w.sorts ts → Typed (at_stage st.stage w) s σ → ((vs : Values) (r : State) → Grows w st.stage r.stage → ValuesHave (at_stage r.stage w) vs ts → IsSafe w r.stage t (go vs r)) → IsSafe w st.stage t (with_all tops body es σ st go)
+      all_safe NoTrees s σ st ts t go T h d k f = f NoValues st (grows_same w st.stage) (subst (ValuesHave (at_stage st.stage w) NoValues) (sym h) tt)
+      all_safe (AndTree e es) s σ st ts t go T h d k f =
+          let c = subst (AreSimple w.sorts) h.2 d in
+          then_one w st.stage h.0 t (with_bodies tops body e σ st) _ (simple_at_most w (sort_of w.sorts h.0) (sort_of w.sorts t) c.1) (term_safe e s σ st h.0 T h.3 k)
+          (λ v r g i. all_safe es s σ r h.1 t _ (tops_on st r g T) (all_more (at_stage st.stage w) (at_stage r.stage w) (on st r g) es s s (same_within s) h.1 h.4) c.2 (typed_on st r s σ g k)
+          (λ vs u g2 j. f (AndValue v vs) u (grows_then w st.stage r.stage u.stage g g2) (subst (ValuesHave (at_stage u.stage w) (AndValue v vs)) (sym h.2) (value_later w r.stage u.stage v h.0 g2 i, j))))
+
+      each_safe : (es : Trees) (s : Surroundings) (σ : Names) (st : State) (a t : Ground) (go : Values → State → Ending) → TopsTyped w st.stage tops → EachHas (at_stage st.stage w) s es a → sort_of w.sorts a ≡ Simple → Typed (at_stage st.stage w) s σ → ((vs : Values) (r : State) → Grows w st.stage r.stage → EachIs w l (at_stage r.stage w) vs a → IsSafe w r.stage t (go vs r)) → IsSafe w st.stage t (with_all tops body es σ st go)
+      each_safe NoTrees s σ st a t go T h d k f = f NoValues st (grows_same w st.stage) tt
+      each_safe (AndTree e es) s σ st a t go T h d k f =
+          then_one w st.stage a t (with_bodies tops body e σ st) _ (simple_at_most w (sort_of w.sorts a) (sort_of w.sorts t) d) (term_safe e s σ st a T h.0 k)
+          (λ v r g i. each_safe es s σ r a t _ (tops_on st r g T) (each_more (at_stage st.stage w) (at_stage r.stage w) (on st r g) es s s (same_within s) a h.1) d (typed_on st r s σ g k)
+          (λ vs u g2 j. f (AndValue v vs) u (grows_then w st.stage r.stage u.stage g g2) (value_later w r.stage u.stage v a g2 i, j)))
+
+      guards_safe : (gs : GuardedTrees) (s : Surroundings) (σ : Names) (st : State) (t : Ground) → TopsTyped w st.stage tops → GuardsHave (at_stage st.stage w) s gs t → Typed (at_stage st.stage w) s σ → IsSafe w st.stage t (with_guards tops body gs σ st)
+      guards_safe NoGuards s σ st t T h k = grows_same w st.stage
+      guards_safe (AndGuard c b gs) s σ st t T h k =
+          then_one w st.stage bool t (with_bodies tops body c σ st) _ (simple_at_most w Simple (sort_of w.sorts t) refl) (term_safe c s σ st bool T h.0 k)
+          (λ v r g i. truth_safe w l v r t _ _ i
+          (term_safe b s σ r t (tops_on st r g T) (term_later w l st.stage r.stage b s t g h.1) (typed_on st r s σ g k))
+          (guards_safe gs s σ r t (tops_on st r g T) (guards_more (at_stage st.stage w) (at_stage r.stage w) (on st r g) gs s s (same_within s) t h.2) (typed_on st r s σ g k)))
+
+      branches_safe : (bs : Branches) (v : Value) (from : Ground) (s : Surroundings) (σ : Names) (st : State) (t : Ground) → TopsTyped w st.stage tops → BranchesHave (at_stage st.stage w) s bs from t → Typed (at_stage st.stage w) s σ → ValueHas (at_stage st.stage w) v from → IsSafe w st.stage t (with_branches tops body bs v σ st)
+      branches_safe NoBranches v from s σ st t T h k i = grows_same w st.stage
+      branches_safe (AndBranch p b bs) v from s σ st t T h k i =
+          branch_safe w l (matching p v) h.0.0 st t (λ bindings r. with_bodies tops body b (bind_all bindings σ) r) (λ r. with_branches tops body bs v σ r)
+          (match_has (at_stage st.stage w) p v from h.0.0 h.0.1 i)
+          (λ ds j. term_safe b (with_bound h.0.0 s) (bind_all ds σ) st t T h.0.2 (typed_bound (at_stage st.stage w) ds h.0.0 s σ j k))
+          (branches_safe bs v from s σ st t T h.1 k i)
+
+      fields_safe : (fs : FieldTrees) (s : Surroundings) (σ : Names) (st : State) (before row : Row) (t : Ground) (go : List (List ℕ × Value) → State → Ending) → TopsTyped w st.stage tops → FieldsOver (at_stage st.stage w) s fs before row → HasSimpleFields w.sorts row → Typed (at_stage st.stage w) s σ → ((new : List (List ℕ × Value)) (r : State) → Grows w st.stage r.stage → PutHave (at_stage r.stage w) new before row → IsSafe w r.stage t (go new r)) → IsSafe w st.stage t (with_fields tops body fs σ st go)
+      fields_safe NoFieldTrees s σ st before row t go T h d k f = f [] st (grows_same w st.stage) h
+      fields_safe (AndFieldTree label e fs) s σ st before row t go T h d k f =
+          let c = extended_simple w.sorts label h.0 h.1 (subst (HasSimpleFields w.sorts) h.4 d) in
+          then_one w st.stage h.0 t (with_bodies tops body e σ st) _ (simple_at_most w (sort_of w.sorts h.0) (sort_of w.sorts t) c.0) (term_safe e s σ st h.0 T h.2 k)
+          (λ v r g i. fields_safe fs s σ r before h.1 t _ (tops_on st r g T) (over_more (at_stage st.stage w) (at_stage r.stage w) (on st r g) fs s s (same_within s) before h.1 h.3) c.1 (typed_on st r s σ g k)
+          (λ new u g2 j. f ((label, v) ∷ new) u (grows_then w st.stage r.stage u.stage g g2) (h.0, h.1, value_later w r.stage u.stage v h.0 g2 i, j, h.4)))
+
+      newest_safe : (fs : FieldTrees) (s : Surroundings) (σ : Names) (st : State) (row : Row) (t : Ground) (go : List (List ℕ × Value) → State → Ending) → TopsTyped w st.stage tops → NewestAre (at_stage st.stage w) s fs row → HasSimpleFields w.sorts row → Typed (at_stage st.stage w) s σ → ((new : List (List ℕ × Value)) (r : State) → Grows w st.stage r.stage → SetHave (at_stage r.stage w) new row → IsSafe w r.stage t (go new r)) → IsSafe w st.stage t (with_fields tops body fs σ st go)
+      newest_safe NoFieldTrees s σ st row t go T h d k f = f [] st (grows_same w st.stage) tt
+      newest_safe (AndFieldTree label e fs) s σ st row t go T h d k f =
+          then_one w st.stage h.0.0 t (with_bodies tops body e σ st) _ (simple_at_most w (sort_of w.sorts h.0.0) (sort_of w.sorts t) (newest_simple w.sorts label h.0.0 row d h.0.1)) (term_safe e s σ st h.0.0 T h.0.2 k)
+          (λ v r g i. newest_safe fs s σ r row t _ (tops_on st r g T) (newest_more (at_stage st.stage w) (at_stage r.stage w) (on st r g) fs s s (same_within s) row h.1) d (typed_on st r s σ g k)
+          (λ new u g2 j. f ((label, v) ∷ new) u (grows_then w st.stage r.stage u.stage g g2) (h.0.0, h.0.1, value_later w r.stage u.stage v h.0.0 g2 i, j)))
+
+-- calls lie at most k deep
+depth_safe : (w : World) (l : HasLibrary w) (tops : List Value) (k : ℕ) → SafeBodies w l tops (to_depth tops k)
+unfolding to_depth
+depth_safe w l tops zero e s σ st t T h k = grows_same w st.stage
+depth_safe w l tops (suc n) e s σ st t T h k = term_safe w l tops (to_depth tops n) (depth_safe w l tops n) e s σ st t T h k
+
+-- a well-typed term is safe, with any names of these types
+pub evaluate_safe : (w : World) (l : HasLibrary w) (tops : List Value) (e : Tree) (s : Surroundings) (σ : Names) (st : State) (t : Ground) → TopsTyped w st.stage tops → TermHas (at_stage st.stage w) s e t → Typed (at_stage st.stage w) s σ → IsSafe w st.stage t (evaluate tops e σ st)
+unfolding evaluate
+evaluate_safe w l tops e s σ st t T h k = depth_safe w l tops (suc st.left) e s σ st t T h k
