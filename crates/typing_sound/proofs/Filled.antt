@@ -12,6 +12,7 @@ use Rattle.typing_rules.specs.CorePatterns.{CorePattern, core_pattern, core_patt
 use Rattle.typing_rules.specs.Worlds.{Types, Surroundings, exactly, Either, with_name, Bound, with_bound, World, IsProper}
 use Rattle.typing_rules.specs.Rules.{Typings, under_work, GivenBy, generalised, Grouped, Together}
 use Rattle.typing_rules.specs.TermTypes.{ValueHas, TermHas, AllHave, EachHas, GuardsHave, BranchesHave, FieldsOver, NewestAre, EachFunctionHas, GroupHas}
+use Rattle.typing_sound.specs.SafeEndings.{Fills, FillsAt}
 use Rattle.typing_sound.proofs.Combine.{Sub, same, Alike, same_world, well_more, incoming_more, called_more, branch_more, abstracted_more, chosen_more, cased_more, defined_more, given_more, grouped_more, of_parts_more, and_part_more, listed_more, ranged_more, SubOver, field_over_more, of_fields_more, extended_more, newest_is_more, updated_more, removed_more, field_of_more}
 
 -- names of patterns
@@ -82,49 +83,41 @@ paired w s (AndFunction name p b g) [] h = absurd h
 paired w s (AndFunction name p b g) (t ∷ ts) h = paired w s g ts h.1
 
 module _ (w : World) where
-  -- a name's value has its type, or the name is left with its type
-  abbrev pub FillsAt : Option Value → Type 0 → Ground → Type 0
-  FillsAt (Some v) R t = ValueHas w v t
-  FillsAt None R t = R
-
-  pub record Fills (s : Surroundings) (σ : Names) (r : Surroundings) : Type 0 where
-    pub at : (y : ℕ) (t : Ground) → s y t → FillsAt (σ y) (r y t) t
-
-  fills_one : (b : Bool) (P Q S R : Type 0) (o : Option Value) (t : Ground) → (P → Q) → (S → FillsAt o R t) → Either b P S → FillsAt (if b then None else o) (Either b Q R) t
+  fills_one : (b : Bool) (P Q S R : Type 0) (o : Option Value) (t : Ground) → (P → Q) → (S → FillsAt w o R t) → Either b P S → FillsAt w (if b then None else o) (Either b Q R) t
   fills_one true P Q S R o t f g h = f h
   fills_one false P Q S R o t f g h = g h
 
-  pub fills_name : (x : ℕ) (P Q : Types) (s r : Surroundings) (σ : Names) → Sub P Q → Fills s σ r → Fills (with_name x P s) (hide x σ) (with_name x Q r)
+  pub fills_name : (x : ℕ) (P Q : Types) (s r : Surroundings) (σ : Names) → Sub P Q → Fills w s σ r → Fills w (with_name x P s) (hide x σ) (with_name x Q r)
   fills_name x P Q s r σ f h = record { at = λ y t. fills_one (x == y) (P t) (Q t) (s y t) (r y t) (σ y) t (f t) (h.at y t) }
 
-  fills_bound : (bs : Bound) (s r : Surroundings) (σ : Names) → Fills s σ r → Fills (with_bound bs s) (hide_all (firsts bs) σ) (with_bound bs r)
+  fills_bound : (bs : Bound) (s r : Surroundings) (σ : Names) → Fills w s σ r → Fills w (with_bound bs s) (hide_all (firsts bs) σ) (with_bound bs r)
   fills_bound [] s r σ h = h
   fills_bound (b ∷ bs) s r σ h = fills_bound bs _ _ (hide b.0 σ) (fills_name b.0 (exactly b.1) (exactly b.1) s r σ (same (exactly b.1)) h)
 
-  pub fills_pattern : (p : Pattern) (t : Ground) (bs : Bound) (s r : Surroundings) (σ : Names) → Fits w.unions (core_pattern p) t bs → Fills s σ r → Fills (with_bound bs s) (hide_all (names_of p) σ) (with_bound bs r)
-  fills_pattern p t bs s r σ k h = subst (λ ns. Fills (with_bound bs s) (hide_all ns σ) (with_bound bs r)) (fits_names w.unions p t bs k) (fills_bound bs s r σ h)
+  pub fills_pattern : (p : Pattern) (t : Ground) (bs : Bound) (s r : Surroundings) (σ : Names) → Fits w.unions (core_pattern p) t bs → Fills w s σ r → Fills w (with_bound bs s) (hide_all (names_of p) σ) (with_bound bs r)
+  fills_pattern p t bs s r σ k h = subst (λ ns. Fills w (with_bound bs s) (hide_all ns σ) (with_bound bs r)) (fits_names w.unions p t bs k) (fills_bound bs s r σ h)
 
-  fills_local : (p : Pattern) (x : ℕ) (P Q : Types) (s r : Surroundings) (σ : Names) → core_pattern p ≡ CorePattern.Local x → Sub P Q → Fills s σ r → Fills (with_name x P s) (hide_all (names_of p) σ) (with_name x Q r)
-  fills_local p x P Q s r σ e f h = subst (λ ns. Fills (with_name x P s) (hide_all ns σ) (with_name x Q r)) (sym (local_names p x e)) (fills_name x P Q s r σ f h)
+  fills_local : (p : Pattern) (x : ℕ) (P Q : Types) (s r : Surroundings) (σ : Names) → core_pattern p ≡ CorePattern.Local x → Sub P Q → Fills w s σ r → Fills w (with_name x P s) (hide_all (names_of p) σ) (with_name x Q r)
+  fills_local p x P Q s r σ e f h = subst (λ ns. Fills w (with_name x P s) (hide_all ns σ) (with_name x Q r)) (sym (local_names p x e)) (fills_name x P Q s r σ f h)
 
-  fills_names_work : (xs : List ℕ) (ts : List Ground) (s r : Surroundings) (σ : Names) → Paired xs ts → Fills s σ r → Fills (under_work xs ts s) (hide_all xs σ) (under_work xs ts r)
+  fills_names_work : (xs : List ℕ) (ts : List Ground) (s r : Surroundings) (σ : Names) → Paired xs ts → Fills w s σ r → Fills w (under_work xs ts s) (hide_all xs σ) (under_work xs ts r)
   fills_names_work [] [] s r σ k h = h
   fills_names_work [] (t ∷ ts) s r σ k h = absurd k
   fills_names_work (x ∷ xs) [] s r σ k h = absurd k
   fills_names_work (x ∷ xs) (t ∷ ts) s r σ k h = fills_names_work xs ts _ _ (hide x σ) k (fills_name x (exactly t) (exactly t) s r σ (same (exactly t)) h)
 
-  fills_names_given : (xs : List ℕ) (i : ℕ) (G H : Typings) (s r : Surroundings) (σ : Names) → ((ts : List Ground) → G ts → H ts) → Fills s σ r → Fills (generalised xs i G s) (hide_all xs σ) (generalised xs i H r)
+  fills_names_given : (xs : List ℕ) (i : ℕ) (G H : Typings) (s r : Surroundings) (σ : Names) → ((ts : List Ground) → G ts → H ts) → Fills w s σ r → Fills w (generalised xs i G s) (hide_all xs σ) (generalised xs i H r)
   fills_names_given [] i G H s r σ f h = h
   fills_names_given (x ∷ xs) i G H s r σ f h =
       fills_names_given xs (suc i) G H _ _ (hide x σ) f (fills_name x (GivenBy G i) (GivenBy H i) s r σ (given_more i G H f) h)
 
-  pub fills_work : (g : Group) (ts : List Ground) (s r : Surroundings) (σ : Names) → Paired (function_names g) ts → Fills s σ r → Fills (under_work (function_names g) ts s) (hide_group g σ) (under_work (function_names g) ts r)
-  fills_work g ts s r σ k h = subst (λ τ. Fills (under_work (function_names g) ts s) τ (under_work (function_names g) ts r)) (sym (hidden_names g σ)) (fills_names_work (function_names g) ts s r σ k h)
+  pub fills_work : (g : Group) (ts : List Ground) (s r : Surroundings) (σ : Names) → Paired (function_names g) ts → Fills w s σ r → Fills w (under_work (function_names g) ts s) (hide_group g σ) (under_work (function_names g) ts r)
+  fills_work g ts s r σ k h = subst (λ τ. Fills w (under_work (function_names g) ts s) τ (under_work (function_names g) ts r)) (sym (hidden_names g σ)) (fills_names_work (function_names g) ts s r σ k h)
 
-  fills_given : (g : Group) (G H : Typings) (s r : Surroundings) (σ : Names) → ((ts : List Ground) → G ts → H ts) → Fills s σ r → Fills (generalised (function_names g) 0 G s) (hide_group g σ) (generalised (function_names g) 0 H r)
-  fills_given g G H s r σ f h = subst (λ τ. Fills (generalised (function_names g) 0 G s) τ (generalised (function_names g) 0 H r)) (sym (hidden_names g σ)) (fills_names_given (function_names g) 0 G H s r σ f h)
+  fills_given : (g : Group) (G H : Typings) (s r : Surroundings) (σ : Names) → ((ts : List Ground) → G ts → H ts) → Fills w s σ r → Fills w (generalised (function_names g) 0 G s) (hide_group g σ) (generalised (function_names g) 0 H r)
+  fills_given g G H s r σ f h = subst (λ τ. Fills w (generalised (function_names g) 0 G s) τ (generalised (function_names g) 0 H r)) (sym (hidden_names g σ)) (fills_names_given (function_names g) 0 G H s r σ f h)
 
-  local_filled : (y : ℕ) (o : Option Value) (s r : Surroundings) → ((t : Ground) → s y t → FillsAt o (r y t) t) → Sub (TermHas w s (Local y)) (TermHas w r (replaced y o))
+  local_filled : (y : ℕ) (o : Option Value) (s r : Surroundings) → ((t : Ground) → s y t → FillsAt w o (r y t) t) → Sub (TermHas w s (Local y)) (TermHas w r (replaced y o))
   local_filled y None s r f t h = (h.0, f t h.1)
   local_filled y (Some v) s r f t h = (h.0, f t h.1)
 
@@ -133,7 +126,7 @@ module _ (w : World) where
   group_named g d r τ t h = (h.0, subst (λ xs. Grouped w xs (Together xs (λ y. EachFunctionHas w y (fill_group g τ))) (λ z. TermHas w z (fill d τ)) r t) (sym (filled_names g τ)) h.1)
 
   mutual
-    pub term_filled : (e : Tree) (s r : Surroundings) (σ : Names) → Fills s σ r → Sub (TermHas w s e) (TermHas w r (fill e σ))
+    pub term_filled : (e : Tree) (s r : Surroundings) (σ : Names) → Fills w s σ r → Sub (TermHas w s e) (TermHas w r (fill e σ))
     term_filled (Done v) s r σ k = λ t h. h
     term_filled (Local y) s r σ k = local_filled y (σ y) s r (k.at y)
     term_filled (Top n) s r σ k = λ t h. h
@@ -166,34 +159,34 @@ module _ (w : World) where
     term_filled (Field e l) s r σ k = well_more w w _ _ (same_world w) (field_of_more _ _ l (term_filled e s r σ k))
     term_filled NoTree s r σ k = λ t h. absurd h.1
 
-    all_filled : (es : Trees) (s r : Surroundings) (σ : Names) → Fills s σ r → (ts : Grounds) → AllHave w s es ts → AllHave w r (fill_all es σ) ts
+    all_filled : (es : Trees) (s r : Surroundings) (σ : Names) → Fills w s σ r → (ts : Grounds) → AllHave w s es ts → AllHave w r (fill_all es σ) ts
     all_filled NoTrees s r σ k ts h = h
     all_filled (AndTree e es) s r σ k ts h = and_part_more _ _ _ _ (term_filled e s r σ k) (all_filled es s r σ k) ts h
 
-    each_element_filled : (es : Trees) (s r : Surroundings) (σ : Names) → Fills s σ r → Sub (EachHas w s es) (EachHas w r (fill_all es σ))
+    each_element_filled : (es : Trees) (s r : Surroundings) (σ : Names) → Fills w s σ r → Sub (EachHas w s es) (EachHas w r (fill_all es σ))
     each_element_filled NoTrees s r σ k t h = h
     each_element_filled (AndTree e es) s r σ k t h = (term_filled e s r σ k t h.0, each_element_filled es s r σ k t h.1)
 
-    guards_filled : (gs : GuardedTrees) (s r : Surroundings) (σ : Names) → Fills s σ r → Sub (GuardsHave w s gs) (GuardsHave w r (fill_guards gs σ))
+    guards_filled : (gs : GuardedTrees) (s r : Surroundings) (σ : Names) → Fills w s σ r → Sub (GuardsHave w s gs) (GuardsHave w r (fill_guards gs σ))
     guards_filled NoGuards s r σ k t h = h
     guards_filled (AndGuard c e gs) s r σ k t h = chosen_more _ _ _ _ _ _ (term_filled c s r σ k) (term_filled e s r σ k) (guards_filled gs s r σ k) t h
 
-    branches_filled : (bs : Branches) (s r : Surroundings) (σ : Names) → Fills s σ r → (from : Ground) → Sub (BranchesHave w s bs from) (BranchesHave w r (fill_branches bs σ) from)
+    branches_filled : (bs : Branches) (s r : Surroundings) (σ : Names) → Fills w s σ r → (from : Ground) → Sub (BranchesHave w s bs from) (BranchesHave w r (fill_branches bs σ) from)
     branches_filled NoBranches s r σ k from t h = h
     branches_filled (AndBranch p e bs) s r σ k from t h = (
       branch_more w w (core_pattern p) (λ z. TermHas w z e) (λ z. TermHas w z (fill e (hide_all (names_of p) σ))) s r from (same_world w) (λ d q. term_filled e _ _ _ (fills_pattern p from d s r σ q k)) t h.0,
       branches_filled bs s r σ k from t h.1,
     )
 
-    over_filled : (fs : FieldTrees) (s r : Surroundings) (σ : Names) → Fills s σ r → SubOver (FieldsOver w s fs) (FieldsOver w r (fill_fields fs σ))
+    over_filled : (fs : FieldTrees) (s r : Surroundings) (σ : Names) → Fills w s σ r → SubOver (FieldsOver w s fs) (FieldsOver w r (fill_fields fs σ))
     over_filled NoFieldTrees s r σ k before row h = h
     over_filled (AndFieldTree l e fs) s r σ k before row h = field_over_more l _ _ _ _ (term_filled e s r σ k) (over_filled fs s r σ k) before row h
 
-    newest_filled : (fs : FieldTrees) (s r : Surroundings) (σ : Names) → Fills s σ r → (row : Row) → NewestAre w s fs row → NewestAre w r (fill_fields fs σ) row
+    newest_filled : (fs : FieldTrees) (s r : Surroundings) (σ : Names) → Fills w s σ r → (row : Row) → NewestAre w s fs row → NewestAre w r (fill_fields fs σ) row
     newest_filled NoFieldTrees s r σ k row h = h
     newest_filled (AndFieldTree l e fs) s r σ k row h = (newest_is_more l _ _ (term_filled e s r σ k) row h.0, newest_filled fs s r σ k row h.1)
 
-    pub functions_filled : (g : Group) (s r : Surroundings) (σ : Names) → Fills s σ r → (ts : List Ground) → EachFunctionHas w s g ts → EachFunctionHas w r (fill_group g σ) ts
+    pub functions_filled : (g : Group) (s r : Surroundings) (σ : Names) → Fills w s σ r → (ts : List Ground) → EachFunctionHas w s g ts → EachFunctionHas w r (fill_group g σ) ts
     functions_filled NoFunctions s r σ k [] h = h
     functions_filled NoFunctions s r σ k (t ∷ ts) h = h
     functions_filled (AndFunction name p e g) s r σ k [] h = h

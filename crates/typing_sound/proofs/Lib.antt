@@ -10,3 +10,4 @@ pub mod Natives
 pub mod Stages
 pub mod RecordValues
 pub mod Sound
+pub mod Laws

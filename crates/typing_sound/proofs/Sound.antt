@@ -22,6 +22,7 @@ use Rattle.elm_meaning.specs.Answers.{Answer, Gives, Faults, Reply, named}
 use Rattle.elm_meaning.specs.Equations.{Equation}
 use Rattle.elm_meaning.specs.NativeTable.{Native, IsValue, Replies, MakesNode, native_at, takes_of}
 use Rattle.elm_meaning.specs.Progress.{Stage, State, Ending, Returns, Stops, NoRule, with_left, with_notes, with_equations, then_do, spend_where, spend, answered, replied, add_behind, add_node, made_node}
+use Rattle.elm_meaning.specs.Calls.{applied}
 use Rattle.elm_meaning.specs.Evaluation.{Bodies, where_fits, with_argument, number_of, list_of as listed_values, constructed, where_all, native_given, given, member_entered, entered, apply, truth_of, if_true, if_fits, listed, range_length, numbers_from, ranged, record_or_none, value_or_none, set_all, updated, extended, removed, field_of, with_bodies, with_all, with_fields, with_guards, with_branches, to_depth, evaluate}
 use Rattle.typing_rules.specs.Unions.{Union, UnionGives, ConstructorGives, GivesWhere, count_of, arrows}
 use Rattle.typing_rules.specs.Library.{signature_of}
@@ -29,12 +30,12 @@ use Rattle.typing_rules.specs.CorePatterns.{CorePattern, core_pattern, Fits}
 use Rattle.typing_rules.specs.Worlds.{Types, Surroundings, no_surroundings, exactly, with_name, Bound, with_bound, World, IsProper, MayStandIn}
 use Rattle.typing_rules.specs.Rules.{Abstracted, Branch, Defined, TakenApart, NamedValue, Typings, type_at, under_work, GivenBy, generalised, NativeGives}
 use Rattle.typing_rules.specs.TermTypes.{CalleeGives, takes, ValueHas, ValuesHave, FieldsHave, AreTaken, FunctionHas, TermHas, AllHave, EachHas, GuardsHave, BranchesHave, FieldsOver, NewestAre, EachFunctionHas, GroupHas}
-use Rattle.typing_rules.specs.Nodes.{NativeCall, CallGives, call_of, EquationHas, at_equations}
+use Rattle.typing_rules.specs.Nodes.{values, NativeCall, CallGives, call_of, EquationHas, at_equations}
 use Rattle.typing_sound.specs.Safe.{HasLibrary, GivesTyped, MakesTyped}
-use Rattle.typing_sound.specs.SafeEndings.{at_stage, Grows, IsSafe}
+use Rattle.typing_sound.specs.SafeEndings.{at_stage, Grows, IsSafe, TopsTyped, Fills, FillsAt}
 use Rattle.typing_sound.proofs.Combine.{Sub, Within, same, same_within, Alike}
 use Rattle.typing_sound.proofs.Monotone.{Below, callee_more, taken_more, value_more, values_more, term_more, all_more, each_more, guards_more, branches_more, over_more, newest_more}
-use Rattle.typing_sound.proofs.Filled.{Fills, FillsAt, Paired, paired, fills_work, filled_names, functions_filled, term_filled}
+use Rattle.typing_sound.proofs.Filled.{Paired, paired, fills_work, filled_names, functions_filled, term_filled}
 use Rattle.typing_sound.proofs.Bound.{some_is, same_bytes, BindsHave, MatchHas, match_has, newest_has, Typed, typed_nothing, typed_name, typed_less, typed_bound, typed_group, work_given}
 use Rattle.typing_sound.proofs.Canonical.{bool_value, int_value, record_value, function_value}
 use Rattle.typing_sound.proofs.Natives.{safe_native}
@@ -96,10 +97,6 @@ filled_at w (Some v) t h = subst (λ z. ValueHas w z t) (sym (some_is v h.0 h.1)
 
 fills_typed : (w : World) (s : Surroundings) (σ : Names) → Typed w s σ → Fills w s σ no_surroundings
 fills_typed w s σ k = record { at = λ y t e. filled_at w (σ y) t (k.at y t e) }
-
--- the types of top values, at a stage
-pub record TopsTyped (w : World) (q : Stage) (tops : List Value) : Type 0 where
-  pub at : (n : ℕ) (t : Ground) → w.tops n t → (v : Value) × (slice_get tops n ≡ Some v) × ValueHas (at_stage q w) v t
 
 arguments_same : (u t a r : Ground) → Ground.Function u t ≡ Ground.Function a r → u ≡ a
 arguments_same u t a r e = cc
@@ -559,3 +556,15 @@ depth_safe w l tops (suc n) e s σ st t T h k = term_safe w l tops (to_depth top
 pub evaluate_safe : (w : World) (l : HasLibrary w) (tops : List Value) (e : Tree) (s : Surroundings) (σ : Names) (st : State) (t : Ground) → TopsTyped w st.stage tops → TermHas (at_stage st.stage w) s e t → Typed (at_stage st.stage w) s σ → IsSafe w st.stage t (evaluate tops e σ st)
 unfolding evaluate
 evaluate_safe w l tops e s σ st t T h k = depth_safe w l tops (suc st.left) e s σ st t T h k
+
+-- a value that is given values one by one
+pub given_all_safe : (w : World) (l : HasLibrary w) (tops : List Value) (vs : List Value) (f : Value) (st : State) (whole t : Ground) → TopsTyped w st.stage tops → ValueHas (at_stage st.stage w) f whole → AreTaken (at_stage st.stage w) (values vs) whole t → MayStandIn w whole t → IsSafe w st.stage t (applied tops f vs st)
+given_all_safe w l tops [] f st whole t T h k m = returns_safe w l t f st (subst (ValueHas (at_stage st.stage w) f) (sym k) h)
+given_all_safe w l tops (v ∷ vs) f st (Ground.Function a r) t T h k m =
+    then_one w st.stage r t (apply (evaluate tops) f v st) _ m
+    (apply_safe w l tops (evaluate tops) (λ e s σ. evaluate_safe w l tops e s σ) f v st a r T h k.0)
+    (λ g u i j. given_all_safe w l tops vs g u r t (tops_later w l st.stage u.stage tops i T) j (taken_more (at_stage st.stage w) (at_stage u.stage w) (stages_below w st.stage u.stage i) (values vs) no_surroundings r t k.1) m)
+given_all_safe w l tops (v ∷ vs) f st (Ground.Named n ts) t T h k m = absurd k
+given_all_safe w l tops (v ∷ vs) f st (Ground.Tuple ts) t T h k m = absurd k
+given_all_safe w l tops (v ∷ vs) f st (Ground.Record q) t T h k m = absurd k
+given_all_safe w l tops (v ∷ vs) f st (Ground.Opaque n g) t T h k m = absurd k

@@ -2,6 +2,14 @@
 //! The functions here have no work to do: their contracts state laws of the definitions.
 #![tactic(auto)]
 
+mod native_laws;
+mod soundness_laws;
 mod surroundings_laws;
 
-pub use surroundings_laws::more_surroundings_type_no_less;
+pub use native_laws::natives_are_safe;
+pub use soundness_laws::{
+    equations_are_well_typed_in_order, simple_terms_make_no_node,
+    values_have_the_types_of_their_terms, well_typed_calls_are_safe, well_typed_terms_are_safe,
+    well_typed_terms_have_rules,
+};
+pub use surroundings_laws::{more_surroundings_type_no_less, substitution_keeps_types};
