@@ -122,7 +122,7 @@ not_int t a g = absurd cc
 
 one_part : (parts : Grounds) (n : List ℕ) (ts : Grounds) → count_of parts ≡ 1 → Ground.Function int (maybe bool) ≡ arrows parts (Ground.Named n ts) → (codes "Maybe.Maybe" ≡ n → AndGround bool NoGrounds ≡ ts → Some (AndGround bool NoGrounds) ≡ Some parts) → ⊥
 one_part NoGrounds n ts c e m = absurd cc
-one_part (AndGround t NoGrounds) n ts c e m = 
+one_part (AndGround t NoGrounds) n ts c e m =
     let a : int ≡ t = cc in
     let b : codes "Maybe.Maybe" ≡ n = cc in
     let d : AndGround bool NoGrounds ≡ ts = cc in

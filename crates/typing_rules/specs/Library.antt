@@ -74,26 +74,36 @@ abbrev pub from : List Written → Written → Written
 from [] result = result
 from (w ∷ ws) result = Arrow w (from ws result)
 
+-- of two numbers, of two values of a type, and of two that are ordered
+
+abbrev pub arithmetic_ : Written
+arithmetic_ = from (int_ ∷ int_ ∷ []) int_
+
+abbrev pub equality_ : Written
+equality_ = from (a_ ∷ a_ ∷ []) bool_
+
+abbrev pub ordered_ : Written → Written
+ordered_ result = from (variable "comparable" ∷ variable "comparable" ∷ []) result
 
 -- the natives' types, in the order of their numbers
 abbrev pub signatures : List Written
 signatures =
     -- + - * // % rem, negate
-    from (int_ ∷ int_ ∷ []) int_
-    ∷ from (int_ ∷ int_ ∷ []) int_
-    ∷ from (int_ ∷ int_ ∷ []) int_
-    ∷ from (int_ ∷ int_ ∷ []) int_
-    ∷ from (int_ ∷ int_ ∷ []) int_
-    ∷ from (int_ ∷ int_ ∷ []) int_
+    arithmetic_
+    ∷ arithmetic_
+    ∷ arithmetic_
+    ∷ arithmetic_
+    ∷ arithmetic_
+    ∷ arithmetic_
     ∷ from (int_ ∷ []) int_
     -- == /=, < > <= >=, compare
-    ∷ from (a_ ∷ a_ ∷ []) bool_
-    ∷ from (a_ ∷ a_ ∷ []) bool_
-    ∷ from (variable "comparable" ∷ variable "comparable" ∷ []) bool_
-    ∷ from (variable "comparable" ∷ variable "comparable" ∷ []) bool_
-    ∷ from (variable "comparable" ∷ variable "comparable" ∷ []) bool_
-    ∷ from (variable "comparable" ∷ variable "comparable" ∷ []) bool_
-    ∷ from (variable "comparable" ∷ variable "comparable" ∷ []) order_
+    ∷ equality_
+    ∷ equality_
+    ∷ ordered_ bool_
+    ∷ ordered_ bool_
+    ∷ ordered_ bool_
+    ∷ ordered_ bool_
+    ∷ ordered_ order_
     -- ++, toString
     ∷ from (variable "appendable" ∷ variable "appendable" ∷ []) (variable "appendable")
     ∷ from (a_ ∷ []) string_
@@ -117,7 +127,7 @@ signatures =
     ∷ from (from (a_ ∷ b_ ∷ c_ ∷ []) d_ ∷ signal_ a_ ∷ signal_ b_ ∷ signal_ c_ ∷ []) (signal_ d_)
     ∷ from (from (a_ ∷ b_ ∷ c_ ∷ d_ ∷ []) e_ ∷ signal_ a_ ∷ signal_ b_ ∷ signal_ c_ ∷ signal_ d_ ∷ []) (signal_ e_)
     ∷ from (from (a_ ∷ b_ ∷ c_ ∷ d_ ∷ e_ ∷ []) (variable "f") ∷ signal_ a_ ∷ signal_ b_ ∷ signal_ c_ ∷ signal_ d_ ∷ signal_ e_ ∷ [])
-        (signal_ (variable "f"))
+    (signal_ (variable "f"))
     -- foldp, merge, filter, filterMap, dropRepeats, sampleOn, async
     ∷ from (from (a_ ∷ variable "state" ∷ []) (variable "state") ∷ variable "state" ∷ signal_ a_ ∷ []) (signal_ (variable "state"))
     ∷ from (signal_ a_ ∷ signal_ a_ ∷ []) (signal_ a_)
