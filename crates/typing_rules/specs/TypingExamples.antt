@@ -3,13 +3,17 @@ use Rattle.std.specs.Prelude.{ℕ, pos, Option, Some, None, List, [], ◌∷◌,
 use Prim.Native.String.{String}
 use Rattle.elm_base.specs.declared.native.TheConstants.{ADD, LESS, TO_STRING, TEXT, MAP}
 use Rattle.elm_base.specs.declared.term.Literal.TheVariants as literal
+use Rattle.elm_meaning.specs.declared.callee.Callee.TheVariants as callee
+use Rattle.elm_meaning.specs.Patterns.{Pattern}
+use Rattle.elm_meaning.specs.Values.{Value, Applicable, Closure, Partial, Tree}
+use Rattle.elm_meaning.specs.Spelling.{values}
 use Rattle.elm_typing.specs.Ground.{Ground}
 use Rattle.elm_typing.specs.Spelling.{all_simple}
 use Rattle.typing_rules.specs.WrittenTypes.{Written, Variable, NoWrittenFields, AndWrittenField}
 use Rattle.typing_rules.specs.Library.{library_unions, devices, int_}
 use Rattle.typing_rules.specs.CorePatterns.{CorePattern, CorePatterns, NoCorePatterns, AndCorePattern}
 use Rattle.typing_rules.specs.Worlds.{Types, World, no_surroundings}
-use Rattle.typing_rules.specs.Core.{Core, Cores, CoreFields, CoreBranches, CoreGroup, Local, Top, Input, Literal, Native, Constructor, Held, Lambda, Call, If, Guards, Case, LetValue, LetFunctions, Tuple, ListOf, Range, Fields, Update, Extend, Remove, Field, NoCores, AndCore, NoCoreFields, AndCoreField, NoCoreGuards, AndCoreGuard, NoCoreBranches, AndCoreBranch, NoCoreFunctions, AndCoreFunction}
+use Rattle.typing_rules.specs.Core.{Core, Cores, CoreFields, CoreGuards, CoreBranches, CoreGroup, Local, Top, Input, Literal, Native, Constructor, Held, Lambda, Call, If, Guards, Case, LetValue, LetFunctions, Tuple, ListOf, Range, Fields, Update, Extend, Remove, Field, NoCores, AndCore, NoCoreFields, AndCoreField, NoCoreGuards, AndCoreGuard, NoCoreBranches, AndCoreBranch, NoCoreFunctions, AndCoreFunction}
 use Rattle.typing_rules.specs.CoreTypes.{CoreHas}
 use Rattle.typing_rules.specs.TopGroups.{Definition, no_tops, world_with, after_groups, IsAccepted}
 
@@ -146,3 +150,22 @@ patterns (p ∷ ps) = AndCorePattern p (patterns ps)
 -- a constructor of whichever union has it
 abbrev pub made : String → List CorePattern → CorePattern
 made constructor ps = CorePattern.Made None (codes constructor) (patterns ps)
+
+abbrev pub truth : Core
+truth = Constructor (codes "Basics.Bool") (codes "True") 0
+
+abbrev pub exactly_one : CorePattern
+exactly_one = CorePattern.Literal (literal.Int (pos 1))
+
+abbrev pub guarded : List (Core × Core) → CoreGuards
+guarded [] = NoCoreGuards
+guarded (g ∷ gs) = AndCoreGuard g.0 g.1 (guarded gs)
+
+-- values
+
+abbrev pub partial : ℕ → List Value → Value
+partial number vs = Applicable (Partial (callee.Native number) (values vs))
+
+-- \x -> x
+abbrev pub identity : Value
+identity = Applicable (Closure (Pattern.Local 0) (Tree.Local 0))
