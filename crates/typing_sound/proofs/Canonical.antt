@@ -83,7 +83,6 @@ module _ (w : World) (l : HasLibrary w) where
       let b = same_types g.0 n g.1 ts (sym g.3) in
       (g.2, subst (λ z. parts_of z n ts k ≡ Some g.2) l.first (subst (λ z. parts_of w.unions n z k ≡ Some g.2) b (subst (λ z. parts_of w.unions z g.1 k ≡ Some g.2) a g.4)), g.5)
 
-
   -- the types without constructors
 
   pub not_made_int : (k : List ℕ) (vs : Values) (ts : Grounds) → ValueHas w (Made k vs) (Ground.Named int_name ts) → ⊥
@@ -234,7 +233,6 @@ module _ (w : World) (l : HasLibrary w) where
       let d = no_parts ps e in
       subst (λ z. P (Made k z)) (sym (parts_none vs (subst (ValuesHave w vs) (sym d) h))) (subst (λ z. P (named z)) (f refl) p)
   pick false c k vs ps P other f e h p q = q e
-
 
   bool_made : (k : List ℕ) (vs : Values) → ValueHas w (Made k vs) bool → (P : Value → Type 0) → P (named (codes "True")) → P (named (codes "False")) → P (Made k vs)
   bool_made k vs h P p0 p1 =

@@ -252,61 +252,166 @@ module _ (w : World) (l : HasLibrary w) where
   AllSafe k (n ∷ ns) (x ∷ ws) = IsSafeNative w k n x × AllSafe (suc k) ns ws
 
   all_safe : AllSafe 0 natives signatures
-  all_safe =
-      (numbers 0 add (λ a b. number_fine w l (a +ℤ b)),
-      (numbers 1 subtract (λ a b. number_fine w l (a -ℤ b)),
-      (numbers 2 multiply (λ a b. number_fine w l (a *ℤ b)),
-      (numbers 3 divide (λ a b. divided_fine w l b _ (number_fine w l (int_div a b))),
-      (numbers 4 modulo (λ a b. divided_fine w l b _ (number_fine w l (with_sign_of b (int_rem a b)))),
-      (numbers 5 remainder (λ a b. divided_fine w l b _ (number_fine w l (int_rem a b))),
-      (safe_negate 6,
-      (safe_equal 7 true false,
-      (safe_equal 8 false true,
-      (safe_order 9 bool_ (truth true) (truth false) (truth false) (λ c. truth_has w l true) (λ c. truth_has w l false) (λ c. truth_has w l false),
-      (safe_order 10 bool_ (truth false) (truth false) (truth true) (λ c. truth_has w l false) (λ c. truth_has w l false) (λ c. truth_has w l true),
-      (safe_order 11 bool_ (truth true) (truth true) (truth false) (λ c. truth_has w l true) (λ c. truth_has w l true) (λ c. truth_has w l false),
-      (safe_order 12 bool_ (truth false) (truth true) (truth true) (λ c. truth_has w l false) (λ c. truth_has w l true) (λ c. truth_has w l true),
-      (safe_order 13 order_ (named (codes "LT")) (named (codes "EQ")) (named (codes "GT")) (λ c. less_has w l) (λ c. same_has w l) (λ c. greater_has w l),
-      (safe_join 14,
-      (safe_to_string 15,
-      (safe_to_code 16,
-      (safe_from_code 17,
-      (of_text 18 int_ string_length (λ c bs. refl),
-      (of_text 19 string_ string_reverse (λ c bs. refl),
-      (of_text 20 (list_ char_) to_list (λ c bs. chars_have w l (chars bs)),
-      (safe_from_list 21,
-      (of_text 22 (result_ string_ int_) to_int (λ c bs. read_fine w l bs (numeral bs)),
-      (safe_note 23 kind.Watch,
-      (safe_note 24 kind.Log,
-      (of_text 25 a_ crash (λ c bs. tt),
-      (safe_constant,
-      (safe_map,
-      (safe_map2,
-      (safe_map3,
-      (safe_map4,
-      (safe_map5,
-      (safe_foldp,
-      (safe_merge,
-      (safe_filter,
-      (safe_filter_map,
-      (safe_drop_repeats,
-      (safe_sample_on,
-      (safe_async,
-      (of_text 39 element_ text (λ c bs. laid_fine w l (text_grid (chars bs))),
-      ((λ c p. refl),
-      (safe_spacer 41,
-      (safe_flow 42,
-      ((λ c p. enumerated w l (codes "Graphics.Element.Direction") (codes "up") refl tt),
-      ((λ c p. enumerated w l (codes "Graphics.Element.Direction") (codes "down") refl tt),
-      ((λ c p. enumerated w l (codes "Graphics.Element.Direction") (codes "left") refl tt),
-      ((λ c p. enumerated w l (codes "Graphics.Element.Direction") (codes "right") refl tt),
-      ((λ c p. enumerated w l (codes "Graphics.Element.Position") (codes "topLeft") refl tt),
-      ((λ c p. enumerated w l (codes "Graphics.Element.Position") (codes "middle") refl tt),
-      ((λ c p. enumerated w l (codes "Graphics.Element.Position") (codes "bottomRight") refl tt),
-      (safe_container 50,
-      (safe_width 51,
-      (safe_height 52,
-      tt)))))))))))))))))))))))))))))))))))))))))))))))))))))
+  all_safe = (
+    numbers 0 add (λ a b. number_fine w l (a +ℤ b)),
+    (
+      numbers 1 subtract (λ a b. number_fine w l (a -ℤ b)),
+      (
+        numbers 2 multiply (λ a b. number_fine w l (a *ℤ b)),
+        (
+          numbers 3 divide (λ a b. divided_fine w l b _ (number_fine w l (int_div a b))),
+          (
+            numbers 4 modulo (λ a b. divided_fine w l b _ (number_fine w l (with_sign_of b (int_rem a b)))),
+            (
+              numbers 5 remainder (λ a b. divided_fine w l b _ (number_fine w l (int_rem a b))),
+              (
+                safe_negate 6,
+                (
+                  safe_equal 7 true false,
+                  (
+                    safe_equal 8 false true,
+                    (
+                      safe_order 9 bool_ (truth true) (truth false) (truth false) (λ c. truth_has w l true) (λ c. truth_has w l false) (λ c. truth_has w l false),
+                      (
+                        safe_order 10 bool_ (truth false) (truth false) (truth true) (λ c. truth_has w l false) (λ c. truth_has w l false) (λ c. truth_has w l true),
+                        (
+                          safe_order 11 bool_ (truth true) (truth true) (truth false) (λ c. truth_has w l true) (λ c. truth_has w l true) (λ c. truth_has w l false),
+                          (
+                            safe_order 12 bool_ (truth false) (truth true) (truth true) (λ c. truth_has w l false) (λ c. truth_has w l true) (λ c. truth_has w l true),
+                            (
+                              safe_order 13 order_ (named (codes "LT")) (named (codes "EQ")) (named (codes "GT")) (λ c. less_has w l) (λ c. same_has w l) (λ c. greater_has w l),
+                              (
+                                safe_join 14,
+                                (
+                                  safe_to_string 15,
+                                  (
+                                    safe_to_code 16,
+                                    (
+                                      safe_from_code 17,
+                                      (
+                                        of_text 18 int_ string_length (λ c bs. refl),
+                                        (
+                                          of_text 19 string_ string_reverse (λ c bs. refl),
+                                          (
+                                            of_text 20 (list_ char_) to_list (λ c bs. chars_have w l (chars bs)),
+                                            (
+                                              safe_from_list 21,
+                                              (
+                                                of_text 22 (result_ string_ int_) to_int (λ c bs. read_fine w l bs (numeral bs)),
+                                                (
+                                                  safe_note 23 kind.Watch,
+                                                  (
+                                                    safe_note 24 kind.Log,
+                                                    (
+                                                      of_text 25 a_ crash (λ c bs. tt),
+                                                      (
+                                                        safe_constant,
+                                                        (
+                                                          safe_map,
+                                                          (
+                                                            safe_map2,
+                                                            (
+                                                              safe_map3,
+                                                              (
+                                                                safe_map4,
+                                                                (
+                                                                  safe_map5,
+                                                                  (
+                                                                    safe_foldp,
+                                                                    (
+                                                                      safe_merge,
+                                                                      (
+                                                                        safe_filter,
+                                                                        (
+                                                                          safe_filter_map,
+                                                                          (
+                                                                            safe_drop_repeats,
+                                                                            (
+                                                                              safe_sample_on,
+                                                                              (
+                                                                                safe_async,
+                                                                                (
+                                                                                  of_text 39 element_ text (λ c bs. laid_fine w l (text_grid (chars bs))),
+                                                                                  (
+                                                                                    (λ c p. refl),
+                                                                                    (
+                                                                                      safe_spacer 41,
+                                                                                      (
+                                                                                        safe_flow 42,
+                                                                                        (
+                                                                                          (λ c p. enumerated w l (codes "Graphics.Element.Direction") (codes "up") refl tt),
+                                                                                          (
+                                                                                            (λ c p. enumerated w l (codes "Graphics.Element.Direction") (codes "down") refl tt),
+                                                                                            (
+                                                                                              (λ c p. enumerated w l (codes "Graphics.Element.Direction") (codes "left") refl tt),
+                                                                                              (
+                                                                                                (λ c p. enumerated w l (codes "Graphics.Element.Direction") (codes "right") refl tt),
+                                                                                                (
+                                                                                                  (λ c p. enumerated w l (codes "Graphics.Element.Position") (codes "topLeft") refl tt),
+                                                                                                  (
+                                                                                                    (λ c p. enumerated w l (codes "Graphics.Element.Position") (codes "middle") refl tt),
+                                                                                                    (
+                                                                                                      (λ c p. enumerated w l (codes "Graphics.Element.Position") (codes "bottomRight") refl tt),
+                                                                                                      (
+                                                                                                        safe_container 50,
+                                                                                                        (
+                                                                                                          safe_width 51,
+                                                                                                          (
+                                                                                                            safe_height 52,
+                                                                                                            tt,
+                                                                                                          ),
+                                                                                                        ),
+                                                                                                      ),
+                                                                                                    ),
+                                                                                                  ),
+                                                                                                ),
+                                                                                              ),
+                                                                                            ),
+                                                                                          ),
+                                                                                        ),
+                                                                                      ),
+                                                                                    ),
+                                                                                  ),
+                                                                                ),
+                                                                              ),
+                                                                            ),
+                                                                          ),
+                                                                        ),
+                                                                      ),
+                                                                    ),
+                                                                  ),
+                                                                ),
+                                                              ),
+                                                            ),
+                                                          ),
+                                                        ),
+                                                      ),
+                                                    ),
+                                                  ),
+                                                ),
+                                              ),
+                                            ),
+                                          ),
+                                        ),
+                                      ),
+                                    ),
+                                  ),
+                                ),
+                              ),
+                            ),
+                          ),
+                        ),
+                      ),
+                    ),
+                  ),
+                ),
+              ),
+            ),
+          ),
+        ),
+      ),
+    ),
+  )
 
   safe_among : (k : ℕ) (ns : List Native) (ws : List Written) (i : ℕ) (n : Native) (x : Written) → AllSafe k ns ws → slice_get ns i ≡ Some n → slice_get ws i ≡ Some x → IsSafeNative w (k + i) n x
   safe_among k [] ws i n x a e f = absurd cc

@@ -54,6 +54,7 @@ module _ (w : World) where
     where
       behind_has : (o : Option Fields) (gs : Fields) → o ≡ Some gs → FieldsHave w gs r → (hs : Fields) × (behind n x o ≡ Some hs) × FieldsHave w hs (Row.Field m u r)
       behind_has o gs d f = (AndField n x gs, ap (behind n x) d, (k.0, k.1, f))
+
       by_label : (b : Bool) → (if b then Some u else row.newest l r) ≡ Some t → (row.newest l r ≡ Some t → (gs : Fields) × (set_field l v fs ≡ Some gs) × FieldsHave w gs r) → (gs : Fields) × ((if b then Some (AndField n v fs) else behind n x (set_field l v fs)) ≡ Some gs) × FieldsHave w gs (Row.Field m u r)
       by_label true d f = (AndField n v fs, refl, (k.0, subst (ValueHas w v) (sym (some_is u t d)) h, k.2))
       by_label false d f = (let g = f d in behind_has (set_field l v fs) g.0 g.1 g.2)
@@ -71,6 +72,7 @@ module _ (w : World) where
           let g = f p d in
           let i : Row.Field m u p ≡ q = cc in
           (AndField n x g.0, ap (behind n x) g.1, subst (FieldsHave w (AndField n x g.0)) i (k.0, k.1, g.2))
+
       by_label : (b : Bool) → (if b then Some r else row.behind m u (row.removed l r)) ≡ Some q → ((p : Row) → row.removed l r ≡ Some p → (gs : Fields) × (remove_field l fs ≡ Some gs) × FieldsHave w gs p) → (gs : Fields) × ((if b then Some fs else behind n x (remove_field l fs)) ≡ Some gs) × FieldsHave w gs q
       by_label true d f = (fs, refl, (let i : r ≡ q = cc in subst (FieldsHave w fs) i k.2))
       by_label false d f = behind_has (row.removed l r) refl d f

@@ -174,6 +174,7 @@ module _ (w : World) (l : HasLibrary w) where
     where
       not_simple : sort_of w.sorts t ≡ Simple → (Some (qs ++ equation ∷ [])) ≡ Some qs
       not_simple d = absurd (let j : Signal ≡ Simple = sym (ap (sort_of w.sorts) e) ∙ d in cc)
+
       limited : (b : Bool) → EquationHas (at_equations qs w) equation value → IsSafe w (Some qs) t (if b then Returns (SignalValue (length qs)) (with_equations (qs ++ equation ∷ []) s) else Stops fault.TooManyNodes s)
       limited true h = ((equation ∷ [], refl, order_added w qs equation value h), (value, e, node_added w qs equation value h), not_simple)
       limited false h = subst (Grows w (Some qs)) (sym i) (grows_same w (Some qs))
@@ -211,12 +212,11 @@ module _ (w : World) (l : HasLibrary w) where
   made_safe n vs None s t whole m c h = absurd m
   made_safe n vs (Some q) s t whole m c h =
       add_safe q s t m.1 m.2
-      (λ qs e. call_has (at_equations qs w) q (n, vs) m.1 m.0
-      (
+      (λ qs e. call_has (at_equations qs w) q (n, vs) m.1 m.0 (
         whole,
         callee_more (at_stage (Some qs) w) (at_equations qs w) (stage_below w qs) (callee.Native n) whole (subst (λ z. CalleeGives (at_stage z w) (callee.Native n) whole) e c),
         taken_more (at_stage (Some qs) w) (at_equations qs w) (stage_below w qs) vs no_surroundings whole (signal_of m.1)
-        (subst (λ z. AreTaken (at_stage (Some qs) w) vs whole z) m.2 (subst (λ z. AreTaken (at_stage z w) vs whole t) e h)),
+            (subst (λ z. AreTaken (at_stage (Some qs) w) vs whole z) m.2 (subst (λ z. AreTaken (at_stage z w) vs whole t) e h)),
       ))
 
   -- some arguments are lacking
@@ -230,10 +230,12 @@ module _ (w : World) (l : HasLibrary w) where
     where
       g : NativeGives n whole
       g = c.0
+
       safe : number_of vs ≡ p → GivesTyped (at_stage s.stage w) t (reply (listed_values vs)).answer
       safe i =
           safe_native (at_stage s.stage w) (library_at s.stage) n (Replies p reply) g.0 e g.1 g.2.0 t vs g.2.1
           (subst (λ z. AreTaken (at_stage s.stage w) vs z t) g.2.2 h) i
+
       all_given : (b : Bool) → (number_of vs == p) ≡ b → IsSafe w s.stage t (where_all b (callee.Native n) vs s (replied (reply (listed_values vs)) s))
       all_given true i = (let r = reply (listed_values vs) in spend_safe (nat_le r.work s.left) r.work s t (λ u. answered r.answer (with_notes r.notes u)) (answered_safe t r.answer (with_notes r.notes (with_left (s.left - r.work) s)) (safe (eqb-true (number_of vs) p i))))
       all_given false i =
@@ -243,6 +245,7 @@ module _ (w : World) (l : HasLibrary w) where
     where
       g : NativeGives n whole
       g = c.0
+
       all_given : (b : Bool) → (number_of vs == p) ≡ b → IsSafe w s.stage t (where_all b (callee.Native n) vs s (made_node (equation (listed_values vs)) s))
       all_given true i =
           made_safe n vs (equation (listed_values vs)) s t whole

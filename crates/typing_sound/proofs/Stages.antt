@@ -126,8 +126,7 @@ module _ (w : World) where
   pub grows_then : (p q r : Stage) → Grows w p q → Grows w q r → Grows w p r
   grows_then None q r g h = subst (λ z. Grows w z r) g h
   grows_then (Some qs) q r g h =
-      let i = subst (λ z. Grows w z r) g.1 h in
-      (
+      let i = subst (λ z. Grows w z r) g.1 h in (
         g.0 ++ i.0,
         i.1 ∙ ap Some (append_assoc qs g.0 i.0),
         λ d. subst (λ z. AreWellTyped z w) (append_assoc qs g.0 i.0) (i.2 (g.2 d)),
