@@ -1,16 +1,16 @@
 -- Derivations of worked cases of annotations, patterns and constructors.
-use Rattle.std.proofs.Common.{◌≡◌, ℕ, List, [], ◌∷◌, Option, Some, None, refl, ap₂, ◌∙◌, codes, inl, inr}
+use Rattle.std.proofs.Common.{◌≡◌, ℕ, List, [], ◌∷◌, Some, None, refl, ap₂, ◌∙◌, codes, inl}
 use Rattle.elm_typing.specs.declared.flag.Flag.TheVariants.{Plain, Comparable}
 use Rattle.elm_typing.specs.Ground.{Ground, Grounds, Row, NoGrounds, AndGround, Ends}
-use Rattle.elm_typing.specs.Names.{list_of, signal_of}
+use Rattle.elm_typing.specs.Names.{signal_of}
 use Rattle.elm_typing.specs.Spelling.{int, string, bool, maybe, result_of, record_of, all_simple}
 use Rattle.elm_base.specs.declared.native.TheConstants.{CONSTANT}
 use Rattle.typing_rules.specs.Library.{library_unions, from, int_, bool_, signal_}
 use Rattle.typing_rules.specs.Unions.{Makes, ConstructorGives, count_of, arrows, parts_of}
 use Rattle.typing_rules.specs.CorePatterns.{CorePattern, Fits}
-use Rattle.typing_rules.specs.Core.{Core, Local, Native}
+use Rattle.typing_rules.specs.Core.{Local, Native}
 use Rattle.typing_rules.specs.TypingExamples.{lambda, var, with_x, Accepted, smaller, one_more, get_x, functions, name, made}
-use Rattle.typing_rules.proofs.Derivations.{always_is, where_is, add}
+use Rattle.typing_rules.proofs.Derivations.{always_is, add}
 
 -- annotations
 

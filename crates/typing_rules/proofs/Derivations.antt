@@ -1,20 +1,19 @@
 -- Derivations of worked cases.
-use Rattle.std.proofs.Common.{◌≡◌, ℕ, List, [], ◌∷◌, Option, Some, None, refl, codes, pos, inl, inr}
+use Rattle.std.proofs.Common.{[], ◌∷◌, refl, codes, inl, inr}
 use Rattle.std.specs.Prelude.{if◌then◌else◌}
 use Rattle.std.specs.Str.{bytes_eq}
 use Prim.Native.String.{String}
 use Rattle.elm_base.specs.declared.native.TheConstants.{ADD, EQUAL, LESS, JOIN, TO_STRING, TEXT, MAP, FOLDP, FILTER_MAP}
-use Rattle.elm_typing.specs.Ground.{Ground, NoGrounds, AndGround, Ends}
+use Rattle.elm_typing.specs.Ground.{Ground}
 use Rattle.elm_typing.specs.Names.{list_of, signal_of}
 use Rattle.elm_typing.specs.Spelling.{int, string, bool, maybe, tuple, record_of}
 use Rattle.typing_rules.specs.WrittenTypes.{Choice}
 use Rattle.typing_rules.specs.Library.{element}
 use Rattle.typing_rules.specs.Worlds.{World, IsProper, Surroundings, no_surroundings, with_bound}
-use Rattle.typing_rules.specs.Rules.{NativeGives, GivenBy}
-use Rattle.typing_rules.specs.CorePatterns.{CorePattern}
-use Rattle.typing_rules.specs.Core.{Core, Local, Native, Call, Case, Update, Remove, Field, ListOf}
+use Rattle.typing_rules.specs.Rules.{NativeGives}
+use Rattle.typing_rules.specs.Core.{Local, Native, Case, Update, Remove, Field, ListOf}
 use Rattle.typing_rules.specs.CoreTypes.{CoreHas}
-use Rattle.typing_rules.specs.TypingExamples.{number, text, sets, call, cores, tuple_of, branches, name, lambda, let_name, always, mouse_x, show, here, Has, two_fields, named_twice, functions}
+use Rattle.typing_rules.specs.TypingExamples.{number, text, sets, call, cores, branches, name, lambda, let_name, always, mouse_x, show, here, Has, two_fields, named_twice, functions}
 
 -- which type the first variable stands for, and all others
 abbrev pub where_is : String → Ground → Ground → Choice

@@ -1,5 +1,5 @@
 -- Derivations of worked cases of forms, values and nodes.
-use Rattle.std.proofs.Common.{◌≡◌, ℕ, List, [], ◌∷◌, refl, codes, arith}
+use Rattle.std.proofs.Common.{[], ◌∷◌, refl, codes, arith}
 use Rattle.elm_base.specs.declared.native.TheConstants.{ADD, NEGATE}
 use Rattle.elm_typing.specs.Ground.{Ground, NoGrounds}
 use Rattle.elm_typing.specs.Names.{signal_of}
@@ -11,10 +11,10 @@ use Rattle.typing_rules.specs.Library.{from, int_}
 use Rattle.typing_rules.specs.Worlds.{World, IsProper}
 use Rattle.typing_rules.specs.Rules.{NativeGives}
 use Rattle.typing_rules.specs.TermTypes.{ValueHas}
-use Rattle.typing_rules.specs.Nodes.{EquationHas, at_equations, without_nodes, with_node, AreWellTyped}
-use Rattle.typing_rules.specs.Core.{Core, Local, Native, Held, Call, If, Guards}
-use Rattle.typing_rules.specs.TypingExamples.{here, Has, number, truth, lambda, guarded, partial, functions}
-use Rattle.typing_rules.proofs.Derivations.{always_is, add, map_at, proper_int, proper_signal}
+use Rattle.typing_rules.specs.Nodes.{EquationHas, at_equations, without_nodes, AreWellTyped}
+use Rattle.typing_rules.specs.Core.{Local, Native, Held, Call, If, Guards}
+use Rattle.typing_rules.specs.TypingExamples.{here, Has, number, truth, lambda, guarded, partial}
+use Rattle.typing_rules.proofs.Derivations.{always_is, add, map_at, proper_int}
 
 -- conditions
 

@@ -1,6 +1,6 @@
 -- The plain form of a program's trees, with what typing asks for and evaluation forgets: of which union a constructor is,
 -- what a maker is held to, and what a `let` annotates.
-use Rattle.std.specs.Prelude.{ℕ, Option, List, [], ◌∷◌}
+use Rattle.std.specs.Prelude.{ℕ, Option, List}
 use Rattle.elm_base.specs.declared.term.Literal.{Literal as TermLiteral}
 use Rattle.elm_meaning.specs.Values.{Tree, Trees, FieldTrees, GuardedTrees, Branches, Group, Done, TupleTree, ListTree, RecordTree, NoTrees, AndTree, NoFieldTrees, AndFieldTree, NoGuards, AndGuard, NoBranches, AndBranch, NoFunctions, AndFunction}
 use Rattle.elm_meaning.specs.NativeTable.{native_at}

@@ -1,5 +1,5 @@
 -- «Typed» of the trees of a program's text, in their plain form.
-use Rattle.std.specs.Prelude.{◌≡◌, ℕ, Option, Some, None, List, [], ◌∷◌}
+use Rattle.std.specs.Prelude.{ℕ, Option, Some, None, List, [], ◌∷◌}
 use Rattle.elm_typing.specs.Ground.{Ground, Grounds, Row}
 use Rattle.typing_rules.specs.WrittenTypes.{Written, IsInstance}
 use Rattle.typing_rules.specs.Unions.{ConstructorGives}

@@ -1,9 +1,9 @@
 -- The unions, natives and devices of the library, with their written types.
-use Rattle.std.specs.Prelude.{ℕ, Option, None, List, [], ◌∷◌, slice_get, codes}
+use Rattle.std.specs.Prelude.{ℕ, Option, List, [], ◌∷◌, slice_get, codes}
 use Prim.Native.String.{String}
 use Rattle.elm_typing.specs.Ground.{Ground, NoGrounds}
 use Rattle.elm_typing.specs.Spelling.{int, bool, tuple, record_of}
-use Rattle.typing_rules.specs.WrittenTypes.{Written, Writtens, Variable, Named, Arrow, Tuple, Fields, NoWrittens, AndWritten}
+use Rattle.typing_rules.specs.WrittenTypes.{Written, Writtens, Variable, Named, Arrow, NoWrittens, AndWritten}
 use Rattle.typing_rules.specs.Unions.{Union}
 
 -- how written types are spelled

@@ -1,12 +1,10 @@
 -- «Typed» of plain terms, and of the values that stand in them.
-use Rattle.std.specs.Prelude.{◌≡◌, ◌<◌, ℕ, suc, Some, None, List, [], ◌∷◌, if◌then◌else◌}
+use Rattle.std.specs.Prelude.{◌≡◌, ◌<◌, ℕ, None, [], ◌∷◌}
 use Rattle.elm_typing.specs.Ground.{Ground, Grounds, Row, NoGrounds, AndGround, Ends}
 use Rattle.elm_typing.specs.Names.{list_of, signal_of}
-use Rattle.elm_typing.specs.Spelling.{int, char, string, bool}
-use Rattle.elm_base.specs.declared.native.TheConstants.{CONSTANT, MAP, FOLDP, MERGE, FILTER, FILTER_MAP, DROP_REPEATS, SAMPLE_ON, ASYNC}
+use Rattle.elm_typing.specs.Spelling.{int, char, string}
 use Rattle.elm_meaning.specs.declared.callee.Callee.{Callee}
 use Rattle.elm_meaning.specs.declared.callee.Callee.TheVariants as callee
-use Rattle.elm_meaning.specs.Patterns.{Pattern}
 use Rattle.elm_meaning.specs.Values.{Value, Values, Fields, Function, Int, Char, Text, Unit as UnitValue, Nil, Cons, Tuple, Made, Record, Applicable, Cells, Signal, NoValues, AndValue, NoFields, AndField, Closure, Member, Partial, Tree, Done, Local, Top, Input, Lambda, Call, If, Guards, Case, LetValue, LetFunctions, TupleTree, ListTree, Range, RecordTree, Update, Extend, Remove, Field, NoTree, Trees, NoTrees, AndTree, FieldTrees, NoFieldTrees, AndFieldTree, GuardedTrees, NoGuards, AndGuard, Branches, NoBranches, AndBranch, Group, NoFunctions, AndFunction}
 use Rattle.elm_meaning.specs.FreeNames.{function_names}
 use Rattle.elm_meaning.specs.Evaluation.{number_of}

@@ -1,5 +1,5 @@
 -- The groups of a program's top level: which have a typing that is accepted, and which types their names have then.
-use Rattle.std.specs.Prelude.{◌≡◌, ℕ, zero, suc, Bool, true, false, ◌||◌, if◌then◌else◌, Option, Some, None, List, [], ◌∷◌, ◌++◌, map, codes}
+use Rattle.std.specs.Prelude.{◌≡◌, ℕ, suc, Bool, false, ◌||◌, if◌then◌else◌, Option, Some, None, List, [], ◌∷◌, ◌++◌, map, codes}
 use Rattle.std.specs.Str.{bytes_eq}
 use Rattle.elm_typing.specs.Ground.{Ground, Ends}
 use Rattle.elm_typing.specs.Sorts.{Sort}

@@ -13,7 +13,7 @@ use Rattle.typing_rules.specs.WrittenTypes.{Written, Variable, NoWrittenFields, 
 use Rattle.typing_rules.specs.Library.{library_unions, devices, int_}
 use Rattle.typing_rules.specs.CorePatterns.{CorePattern, CorePatterns, NoCorePatterns, AndCorePattern}
 use Rattle.typing_rules.specs.Worlds.{Types, World, no_surroundings}
-use Rattle.typing_rules.specs.Core.{Core, Cores, CoreFields, CoreGuards, CoreBranches, CoreGroup, Local, Top, Input, Literal, Native, Constructor, Held, Lambda, Call, If, Guards, Case, LetValue, LetFunctions, Tuple, ListOf, Range, Fields, Update, Extend, Remove, Field, NoCores, AndCore, NoCoreFields, AndCoreField, NoCoreGuards, AndCoreGuard, NoCoreBranches, AndCoreBranch, NoCoreFunctions, AndCoreFunction}
+use Rattle.typing_rules.specs.Core.{Core, Cores, CoreFields, CoreGuards, CoreBranches, Local, Top, Input, Literal, Native, Constructor, Lambda, Call, LetValue, LetFunctions, Tuple, Fields, Extend, Field, NoCores, AndCore, NoCoreFields, AndCoreField, NoCoreGuards, AndCoreGuard, NoCoreBranches, AndCoreBranch, NoCoreFunctions, AndCoreFunction}
 use Rattle.typing_rules.specs.CoreTypes.{CoreHas}
 use Rattle.typing_rules.specs.TopGroups.{Definition, no_tops, world_with, after_groups, IsAccepted}
 

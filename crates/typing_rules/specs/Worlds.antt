@@ -1,6 +1,6 @@
 -- What typing speaks of besides the term: sets of types, what names have, and what is outside of a top-level definition.
-use Rattle.std.specs.Prelude.{◌≡◌, ℕ, Bool, true, false, ◌==◌, List, [], ◌∷◌, Some, slice_get}
-use Rattle.elm_typing.specs.Ground.{Ground, Grounds, NoGrounds, AndGround}
+use Rattle.std.specs.Prelude.{◌≡◌, ℕ, Bool, true, false, ◌==◌, List, [], ◌∷◌}
+use Rattle.elm_typing.specs.Ground.{Ground}
 use Rattle.elm_typing.specs.Ordered.{InOrder}
 use Rattle.elm_typing.specs.Sorts.{Sort, IsAtMost, IsWellSorted, sort_of}
 use Rattle.typing_rules.specs.Unions.{Union}

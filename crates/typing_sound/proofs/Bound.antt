@@ -1,5 +1,5 @@
 -- A pattern that fits a type and a value of that type binds values of the types that its names have.
-use Rattle.std.proofs.Common.{◌≡◌, ℕ, zero, suc, ◌+◌, Bool, true, false, Option, Some, None, List, [], ◌∷◌, ◌++◌, ◌==◌, refl, sym, ap, ap₂, ◌∙◌, subst, arith}
+use Rattle.std.proofs.Common.{◌≡◌, ℕ, suc, ◌+◌, Bool, true, false, Option, Some, None, List, [], ◌∷◌, ◌++◌, ◌==◌, refl, sym, ap, ap₂, ◌∙◌, subst, arith}
 use Rattle.std.specs.Prelude.{if◌then◌else◌}
 use Rattle.std.specs.Str.{bytes_eq}
 use Rattle.std.specs.declared.cmp.Ordering.{Ordering}
@@ -8,12 +8,11 @@ use Rattle.std.specs.Cmp.Lexicographic.{slice_cmp}
 use Rattle.std.specs.Ordering.{nat_cmp, is_eq}
 use Rattle.std.proofs.lemmas.Map.Lookups.{exact_bytes}
 use Rattle.std.proofs.lemmas.Map.Text.{is_eq-slice_cmp}
-use Rattle.elm_base.specs.declared.term.Literal.{Literal}
 use Rattle.elm_typing.specs.Ground.{Ground, Grounds, Row, NoGrounds, AndGround, Ends}
 use Rattle.elm_typing.specs.Names.{list_of}
 use Rattle.elm_typing.specs.Rows as row
 use Rattle.elm_meaning.specs.Patterns.{Pattern, Patterns, NoPatterns, AndPattern}
-use Rattle.elm_meaning.specs.Values.{Value, Values, Fields, Int, Char, Text, Unit as UnitValue, Nil, Cons, Tuple, Made, Record, Applicable, Cells, Signal, NoValues, AndValue, NoFields, AndField, Member, Group, NoFunctions, AndFunction}
+use Rattle.elm_meaning.specs.Values.{Value, Values, Fields, Nil, Cons, Tuple, Made, Record, Applicable, NoValues, AndValue, NoFields, AndField, Member, Group, NoFunctions, AndFunction}
 use Rattle.elm_meaning.specs.FreeNames.{function_names}
 use Rattle.elm_meaning.specs.Records as record_of
 use Rattle.elm_meaning.specs.Matching.{Bindings, nothing_where, both, literal_fits, where_same, named_value, labels_fit, matching, all_matching}
@@ -23,7 +22,7 @@ use Rattle.typing_rules.specs.Unions.{Union, Makes, count_of, arrows, parts_of}
 use Rattle.typing_rules.specs.CorePatterns.{core_pattern, core_patterns, Fits, AllFit, LabelsFit}
 use Rattle.typing_rules.specs.Worlds.{Types, Surroundings, no_surroundings, exactly, Either, with_name, Bound, with_bound, World}
 use Rattle.typing_rules.specs.Rules.{Typings, type_at, under_work, GivenBy, generalised}
-use Rattle.typing_rules.specs.TermTypes.{ValueHas, ValuesHave, FieldsHave, AreTaken, EachFunctionHas, GroupHas}
+use Rattle.typing_rules.specs.TermTypes.{ValueHas, ValuesHave, FieldsHave, AreTaken, GroupHas}
 use Rattle.typing_sound.proofs.Combine.{Sub, Within, name_more, given_more}
 use Rattle.typing_sound.proofs.Filled.{Paired}
 

@@ -1,20 +1,20 @@
 -- The values of each type.
-use Rattle.std.proofs.Common.{◌≡◌, ℕ, zero, suc, ℤ, Bool, true, false, Option, Some, None, List, [], ◌∷◌, ◌++◌, refl, sym, ap, ◌∙◌, subst}
+use Rattle.std.proofs.Common.{◌≡◌, ℕ, ℤ, Bool, true, false, Option, Some, None, List, ◌++◌, refl, sym, ap, ◌∙◌, subst}
 use Rattle.std.specs.Prelude.{codes, if◌then◌else◌}
 use Rattle.std.specs.Str.{bytes_eq}
 use Rattle.elm_typing.specs.declared.flag.Flag.{Flag}
-use Rattle.elm_typing.specs.Ground.{Ground, Grounds, Row, NoGrounds, AndGround}
+use Rattle.elm_typing.specs.Ground.{Ground, Grounds, Row, NoGrounds}
 use Rattle.elm_typing.specs.Names.{int_name, char_name, string_name, list_name, signal_name, list_of, signal_of}
 use Rattle.elm_typing.specs.Spelling.{int, char, string, bool}
 use Rattle.elm_meaning.specs.Values.{Value, Values, Fields, Function, Int, Char, Text, Unit as UnitValue, Nil, Cons, Tuple, Made, Record, Applicable, Cells, Signal, NoValues, AndValue}
-use Rattle.elm_meaning.specs.Answers.{named, truth}
-use Rattle.typing_rules.specs.Unions.{Union, constructors_in, union_named, parts_of, parts_among, types_at, arrows}
+use Rattle.elm_meaning.specs.Answers.{named}
+use Rattle.typing_rules.specs.Unions.{parts_of}
 use Rattle.typing_rules.specs.Library.{element, library_unions}
 use Rattle.typing_rules.specs.Worlds.{World}
-use Rattle.typing_rules.specs.TermTypes.{ValueHas, ValuesHave, FieldsHave, FunctionHas, AreTaken}
+use Rattle.typing_rules.specs.TermTypes.{ValueHas, ValuesHave, FieldsHave, AreTaken}
 use Rattle.typing_sound.specs.Safe.{HasLibrary}
 use Rattle.typing_sound.proofs.Bound.{same_bytes, taken_all}
-use Rattle.typing_sound.proofs.Functions.{IsFunction, function_type}
+use Rattle.typing_sound.proofs.Functions.{function_type}
 
 abbrev pub direction : Ground
 direction = Ground.Named (codes "Graphics.Element.Direction") NoGrounds

@@ -1,13 +1,11 @@
 -- The rules are monotone: a form has a type wherever its parts have theirs.
-use Rattle.std.proofs.Common.{◌≡◌, ℕ, suc, Bool, true, false, Option, Some, None, List, [], ◌∷◌, ◌==◌, refl, sym, subst, ap}
+use Rattle.std.proofs.Common.{◌≡◌, ℕ, suc, Bool, true, false, Some, List, [], ◌∷◌, ◌==◌, refl, subst}
 use Rattle.std.specs.Prelude.{slice_get}
 use Rattle.elm_typing.specs.Ground.{Ground, Grounds, Row}
-use Rattle.elm_typing.specs.Names.{signal_of}
 use Rattle.elm_typing.specs.Sorts.{IsWellSorted, IsAtMost, sort_of}
-use Rattle.typing_rules.specs.WrittenTypes.{Written}
 use Rattle.typing_rules.specs.CorePatterns.{CorePattern, Fits}
 use Rattle.typing_rules.specs.Worlds.{Types, Surroundings, exactly, Either, with_name, Bound, with_bound, World, IsProper, MayStandIn, AllMayStandIn}
-use Rattle.typing_rules.specs.Rules.{Inside, Well, Incoming, Held, Called, Branch, Abstracted, Chosen, Cased, NamedValue, TakenApart, Defined, Typings, under_work, Group, Together, GivenBy, generalised, Grouped, OfParts, NoParts, AndPart, Listed, Ranged, Over, NothingOver, FieldOver, OfFields, Extended, NewestIs, Updated, Removed, FieldOf}
+use Rattle.typing_rules.specs.Rules.{Inside, Well, Incoming, Called, Branch, Abstracted, Chosen, Cased, NamedValue, TakenApart, Defined, Typings, under_work, Group, GivenBy, generalised, Grouped, OfParts, AndPart, Listed, Ranged, Over, FieldOver, OfFields, Extended, NewestIs, Updated, Removed, FieldOf}
 
 -- one set is within another
 abbrev pub Sub : Types → Types → Type 0

@@ -1,21 +1,19 @@
 -- What comparisons find.
-use Rattle.std.proofs.Common.{◌≡◌, ℕ, suc, ℤ, Bool, true, false, ◌&&◌, ◌==◌, List, [], ◌∷◌, refl, sym, ap, ◌∙◌, subst, inl, inr, ◌⊎◌}
+use Rattle.std.proofs.Common.{◌≡◌, ℕ, Bool, true, false, ◌&&◌, ◌==◌, List, [], ◌∷◌, refl, sym, ap, ◌∙◌, subst, inl, inr}
 use Rattle.std.specs.Prelude.{codes}
 use Rattle.std.specs.Str.{chars, bytes_eq}
 use Rattle.std.specs.declared.cmp.Ordering.{Ordering}
 use Rattle.std.specs.declared.cmp.Ordering.TheVariants as ordering
 use Rattle.std.specs.Ordering.{nat_cmp, int_cmp}
-use Rattle.elm_typing.specs.Ground.{Ground, Grounds, Row, NoGrounds, AndGround}
+use Rattle.elm_typing.specs.Ground.{Ground, Grounds, NoGrounds, AndGround}
 use Rattle.elm_typing.specs.Flags.{IsComparable, AllComparable}
-use Rattle.elm_typing.specs.Names.{int_name, char_name, string_name, list_name, signal_name, list_of, signal_of}
-use Rattle.elm_typing.specs.Spelling.{int, char, string}
+use Rattle.elm_typing.specs.Names.{int_name, char_name, string_name, list_name, signal_name, list_of}
 use Rattle.elm_meaning.specs.declared.compared.Compared.{Compared}
-use Rattle.elm_meaning.specs.declared.compared.Comparison.{Comparison}
 use Rattle.elm_meaning.specs.declared.compared.Comparison.TheVariants.{Equality, Order}
 use Rattle.elm_meaning.specs.declared.compared.Outcome.{Outcome}
 use Rattle.elm_meaning.specs.declared.compared.Outcome.TheVariants.{Less, Equal, Greater, Different, FunctionMet, OutOfFuel}
-use Rattle.elm_meaning.specs.Values.{Value, Values, Fields, Int, Char, Text, Unit as UnitValue, Nil, Cons, Tuple, Made, Record, Applicable, Cells, Signal, NoValues, AndValue, NoFields, AndField}
-use Rattle.elm_meaning.specs.PairsVisited.{found, one, and_then, places, cells, same_number, same_labels, parts_where, visited, all_visited, fields_visited}
+use Rattle.elm_meaning.specs.Values.{Value, Values, Fields, Int, Char, Text, Unit as UnitValue, Nil, Cons, Tuple, Made, Record, Applicable, Cells, Signal, NoValues, AndValue, AndField}
+use Rattle.elm_meaning.specs.PairsVisited.{found, and_then, places, cells, same_number, same_labels, parts_where, visited, all_visited, fields_visited}
 use Rattle.typing_rules.specs.Library.{element}
 use Rattle.typing_rules.specs.Worlds.{World}
 use Rattle.typing_rules.specs.TermTypes.{ValueHas, ValuesHave}

@@ -11,9 +11,9 @@ use Rattle.typing_rules.specs.Unions.{Union}
 use Rattle.typing_rules.specs.CorePatterns.{CorePattern, core_pattern, core_patterns, Fits, AllFit, LabelsFit}
 use Rattle.typing_rules.specs.Worlds.{Types, Surroundings, exactly, Either, with_name, Bound, with_bound, World, IsProper}
 use Rattle.typing_rules.specs.Rules.{Typings, under_work, GivenBy, generalised, Grouped, Together}
-use Rattle.typing_rules.specs.TermTypes.{ValueHas, TermHas, AllHave, EachHas, GuardsHave, BranchesHave, FieldsOver, NewestAre, EachFunctionHas, GroupHas}
+use Rattle.typing_rules.specs.TermTypes.{TermHas, AllHave, EachHas, GuardsHave, BranchesHave, FieldsOver, NewestAre, EachFunctionHas, GroupHas}
 use Rattle.typing_sound.specs.SafeEndings.{Fills, FillsAt}
-use Rattle.typing_sound.proofs.Combine.{Sub, same, Alike, same_world, well_more, incoming_more, called_more, branch_more, abstracted_more, chosen_more, cased_more, defined_more, given_more, grouped_more, of_parts_more, and_part_more, listed_more, ranged_more, SubOver, field_over_more, of_fields_more, extended_more, newest_is_more, updated_more, removed_more, field_of_more}
+use Rattle.typing_sound.proofs.Combine.{Sub, same, same_world, well_more, called_more, branch_more, abstracted_more, chosen_more, cased_more, defined_more, given_more, grouped_more, of_parts_more, and_part_more, listed_more, ranged_more, SubOver, field_over_more, of_fields_more, extended_more, newest_is_more, updated_more, removed_more, field_of_more}
 
 -- names of patterns
 

@@ -1,20 +1,19 @@
 -- What takes arguments has the type of a function.
-use Rattle.std.proofs.Common.{◌≡◌, ℕ, zero, suc, ◌<◌, ◌≤◌, ◌+◌, Bool, true, false, Option, Some, None, List, [], ◌∷◌, refl, sym, ap, ◌∙◌, subst, arith}
+use Rattle.std.proofs.Common.{◌≡◌, ℕ, zero, suc, ◌<◌, ◌≤◌, Bool, true, false, Some, None, List, [], ◌∷◌, refl, sym, ap, ◌∙◌, subst, arith}
 use Rattle.std.specs.Prelude.{slice_get, codes}
 use Rattle.std.specs.Str.{bytes_eq}
-use Rattle.elm_meaning.specs.declared.callee.Callee.{Callee}
 use Rattle.elm_meaning.specs.declared.callee.Callee.TheVariants as callee
 use Rattle.elm_typing.specs.Ground.{Ground, Grounds, NoGrounds, AndGround}
 use Rattle.elm_typing.specs.Names.{list_of}
-use Rattle.elm_meaning.specs.Values.{Value, Values, Function, NoValues, AndValue, Closure, Member, Partial, Group, NoFunctions, AndFunction}
+use Rattle.elm_meaning.specs.Values.{Values, Function, NoValues, AndValue, Closure, Member, Partial, Group, NoFunctions, AndFunction}
 use Rattle.elm_meaning.specs.Evaluation.{number_of}
 use Rattle.elm_meaning.specs.NativeTable.{Native, natives, native_at, takes_of}
-use Rattle.typing_rules.specs.WrittenTypes.{Written, Writtens, WrittenFields, Variable, Named, Arrow, Tuple, Fields, Choice, instance_at}
-use Rattle.typing_rules.specs.Unions.{Union, count_of, arrows, UnionGives, GivesWhere}
+use Rattle.typing_rules.specs.WrittenTypes.{Written, Variable, Named, Arrow, Tuple, Fields, Choice, instance_at}
+use Rattle.typing_rules.specs.Unions.{Union, count_of, arrows, GivesWhere}
 use Rattle.typing_rules.specs.Library.{signatures}
-use Rattle.typing_rules.specs.Worlds.{Surroundings, no_surroundings, World}
+use Rattle.typing_rules.specs.Worlds.{Surroundings, World}
 use Rattle.typing_rules.specs.Rules.{type_at}
-use Rattle.typing_rules.specs.TermTypes.{ValueHas, AreTaken, FunctionHas, EachFunctionHas, takes}
+use Rattle.typing_rules.specs.TermTypes.{AreTaken, FunctionHas, EachFunctionHas}
 
 abbrev pub IsFunction : Ground → Type 0
 IsFunction t = (a r : Ground) × (t ≡ Ground.Function a r)

@@ -1,11 +1,11 @@
 -- The public laws, from the lemmas on any world.
-use Rattle.std.proofs.Common.{◌≡◌, ℕ, Option, Some, None, List, ◌++◌, refl, sym, ◌∙◌, subst}
+use Rattle.std.proofs.Common.{◌≡◌, ℕ, Some, None, List, refl, sym, ◌∙◌, subst}
 use Rattle.elm_typing.specs.Ground.{Ground}
 use Rattle.elm_typing.specs.Sorts.{Simple, Signal, sort_of}
 use Rattle.elm_meaning.specs.Values.{Value, Tree}
 use Rattle.elm_meaning.specs.Equations.{Equation}
 use Rattle.elm_meaning.specs.Substitution.{no_names}
-use Rattle.elm_meaning.specs.Progress.{Stage, State, Ending, Returns, Stops, NoRule, HasNoRule, state_of, stage_two}
+use Rattle.elm_meaning.specs.Progress.{Stage, Ending, Returns, Stops, NoRule, HasNoRule, state_of, stage_two}
 use Rattle.elm_meaning.specs.Evaluation.{begun, eval}
 use Rattle.elm_meaning.specs.Calls.{call_of}
 use Rattle.typing_rules.specs.Worlds.{World, Surroundings, no_surroundings, MayStandIn}
@@ -14,7 +14,7 @@ use Rattle.typing_rules.specs.Nodes.{values, AreWellTyped}
 use Rattle.typing_sound.specs.Safe.{HasLibrary}
 use Rattle.typing_sound.specs.SafeEndings.{at_stage, Grows, IsSafe, TopsTyped, HasWellTyped}
 use Rattle.typing_sound.specs.Settings.{Setting, world_of}
-use Rattle.typing_sound.proofs.Combine.{Within, same, same_world}
+use Rattle.typing_sound.proofs.Combine.{same, same_world}
 use Rattle.typing_sound.proofs.Monotone.{Below, term_more}
 use Rattle.typing_sound.proofs.Bound.{typed_nothing}
 use Rattle.typing_sound.proofs.Sound.{evaluate_safe, given_all_safe}

@@ -1,18 +1,16 @@
 -- More surroundings type no less: what has a type has it where names, top values and nodes have more types.
-use Rattle.std.proofs.Common.{◌≡◌, ℕ, suc, Option, Some, None, List, [], ◌∷◌, refl, subst}
+use Rattle.std.proofs.Common.{ℕ, None, List, [], ◌∷◌, subst}
 use Rattle.elm_typing.specs.Ground.{Ground, Grounds, Row, NoGrounds, AndGround, Ends}
 use Rattle.elm_meaning.specs.declared.callee.Callee.{Callee}
 use Rattle.elm_meaning.specs.declared.callee.Callee.TheVariants as callee
-use Rattle.elm_meaning.specs.Patterns.{Pattern}
 use Rattle.elm_meaning.specs.Values.{Value, Values, Fields, Function, Int, Char, Text, Unit as UnitValue, Nil, Cons, Tuple, Made, Record, Applicable, Cells, Signal, NoValues, AndValue, NoFields, AndField, Closure, Member, Partial, Tree, Done, Local, Top, Input, Lambda, Call, If, Guards, Case, LetValue, LetFunctions, TupleTree, ListTree, Range, RecordTree, Update, Extend, Remove, Field, NoTree, Trees, NoTrees, AndTree, FieldTrees, NoFieldTrees, AndFieldTree, GuardedTrees, NoGuards, AndGuard, Branches, NoBranches, AndBranch, Group, NoFunctions, AndFunction}
 use Rattle.elm_meaning.specs.FreeNames.{function_names}
 use Rattle.elm_meaning.specs.Evaluation.{number_of}
 use Rattle.typing_rules.specs.Unions.{UnionGives, ConstructorGives}
 use Rattle.typing_rules.specs.CorePatterns.{core_pattern}
-use Rattle.typing_rules.specs.Worlds.{Types, Surroundings, no_surroundings, World, IsProper}
-use Rattle.typing_rules.specs.Rules.{Typings, under_work, Over}
+use Rattle.typing_rules.specs.Worlds.{Surroundings, no_surroundings, World}
 use Rattle.typing_rules.specs.TermTypes.{CalleeGives, ValueHas, ValuesHave, FieldsHave, AreTaken, FunctionHas, TermHas, AllHave, EachHas, GuardsHave, BranchesHave, FieldsOver, NewestAre, EachFunctionHas, GroupHas}
-use Rattle.typing_sound.proofs.Combine.{Sub, Within, same, same_within, name_more, bound_more, work_more, given_more, generalised_more, Alike, proper_more, well_more, incoming_more, called_more, branch_more, abstracted_more, chosen_more, cased_more, defined_more, grouped_more, of_parts_more, and_part_more, listed_more, ranged_more, SubOver, field_over_more, of_fields_more, extended_more, newest_is_more, updated_more, removed_more, field_of_more}
+use Rattle.typing_sound.proofs.Combine.{Sub, Within, same_within, name_more, bound_more, work_more, given_more, generalised_more, Alike, proper_more, well_more, incoming_more, called_more, branch_more, abstracted_more, chosen_more, cased_more, defined_more, grouped_more, of_parts_more, and_part_more, listed_more, ranged_more, SubOver, field_over_more, of_fields_more, extended_more, newest_is_more, updated_more, removed_more, field_of_more}
 
 -- the second world has at least the types of the first
 pub record Below (v w : World) : Type 0 where

@@ -1,29 +1,28 @@
 -- Each native of the table is safe.
-use Rattle.std.proofs.Common.{◌≡◌, ℕ, zero, suc, ◌+◌, ℤ, Bool, true, false, ◌++◌, Option, Some, None, List, [], ◌∷◌, length, reverse, refl, sym, ap, ◌∙◌, subst, arith}
+use Rattle.std.proofs.Common.{◌≡◌, ℕ, zero, suc, ◌+◌, ℤ, Bool, true, false, Option, Some, List, [], ◌∷◌, length, reverse, refl, sym, subst, arith}
 use Rattle.std.specs.Prelude.{codes, slice_get, neg_ℤ, pos, ◌+ℤ◌, ◌-ℤ◌, ◌*ℤ◌}
 use Rattle.std.specs.Int.RustNames.{int_div, int_rem}
 use Rattle.std.specs.Str.{chars}
 use Rattle.elm_base.specs.declared.native.TheConstants.{CONSTANT, MAP, MAP2, MAP3, MAP4, MAP5, FOLDP, MERGE, FILTER, FILTER_MAP, DROP_REPEATS, SAMPLE_ON, ASYNC}
 use Rattle.elm_base.specs.declared.term.NoteKind.{NoteKind}
 use Rattle.elm_base.specs.declared.term.NoteKind.TheVariants as kind
-use Rattle.elm_typing.specs.Ground.{Ground, Grounds, NoGrounds, AndGround}
+use Rattle.elm_typing.specs.Ground.{Ground}
 use Rattle.elm_typing.specs.Names.{list_of as list_type, signal_of}
 use Rattle.elm_typing.specs.Spelling.{int, char, string, bool}
-use Rattle.elm_meaning.specs.Values.{Value, Values, Int, Char, Text, Unit as UnitValue, Nil, Cons, Tuple, Made, Record, Applicable, Cells, Signal, NoValues, AndValue}
-use Rattle.elm_meaning.specs.Answers.{Answer, Gives, Faults, Reply, named, truth}
+use Rattle.elm_meaning.specs.Values.{Value, Values, Int, Char, Text, Cells, Signal, NoValues, AndValue}
+use Rattle.elm_meaning.specs.Answers.{Answer, Reply, named, truth}
 use Rattle.elm_meaning.specs.Arithmetic.{of_numbers, add, subtract, multiply, divide, modulo, remainder, negate, with_sign_of}
 use Rattle.elm_meaning.specs.Comparisons.{equalities, orders}
 use Rattle.elm_meaning.specs.Equations as signal
 use Rattle.elm_meaning.specs.Equations.{Equation}
 use Rattle.elm_meaning.specs.Evaluation.{number_of, list_of}
-use Rattle.elm_meaning.specs.Layout.{Grid, text, text_grid, spacer, blank, size, flow, flow_of, flowed, laid_out_after, all_above, all_beside, container, framed_at, framed, edge, half, grid_of, width_of, height_of, no_cells, element_of, laid_out, grids_of}
-use Rattle.elm_meaning.specs.NativeTable.{Native, IsValue, Replies, MakesNode, natives, native_at}
+use Rattle.elm_meaning.specs.Layout.{Grid, text, text_grid, spacer, blank, size, flow, flow_of, flowed, laid_out_after, all_above, all_beside, container, framed, half, grid_of, width_of, height_of, grids_of}
+use Rattle.elm_meaning.specs.NativeTable.{Native, Replies, MakesNode, natives, native_at}
 use Rattle.elm_meaning.specs.Texts.{join, to_string, to_code, from_code, string_length, string_reverse, to_list, from_list, to_int, record_note, crash, numeral}
-use Rattle.typing_rules.specs.WrittenTypes.{Written, Writtens, Choice, Respects, instance_at}
+use Rattle.typing_rules.specs.WrittenTypes.{Written, Choice, instance_at}
 use Rattle.typing_rules.specs.Library.{signatures, element, from, int_, bool_, char_, string_, order_, list_, maybe_, result_, signal_, element_, direction_, position_, variable, a_, b_, c_, d_, e_}
 use Rattle.typing_rules.specs.Worlds.{World}
 use Rattle.typing_rules.specs.TermTypes.{ValueHas, AreTaken}
-use Rattle.typing_rules.specs.Nodes.{call_of}
 use Rattle.typing_sound.specs.Safe.{HasLibrary, GivesTyped, MakesTyped, IsSafeNative}
 use Rattle.typing_sound.proofs.Canonical.{direction, position, int_value, char_value, text_value, cells_value, signal_value, direction_value, position_value}
 use Rattle.typing_sound.proofs.Replies.{number_fine, divided_fine, enumerated, truth_has, less_has, same_has, greater_has, equal_fine, order_fine, join_fine, char_fine, chars_have, from_list_fine, read_fine, laid_fine, grids_there}

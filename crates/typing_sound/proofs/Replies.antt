@@ -1,28 +1,27 @@
 -- What natives reply to values of their argument types, family by family.
-use Rattle.std.proofs.Common.{◌≡◌, ℕ, zero, suc, ℤ, pos, negsuc, Bool, true, false, ◌&&◌, ◌++◌, Option, Some, None, List, [], ◌∷◌, refl, sym, ap, ◌∙◌, subst, ◌⊎◌, inl, inr}
+use Rattle.std.proofs.Common.{◌≡◌, ℕ, ℤ, pos, negsuc, Bool, true, false, ◌&&◌, ◌++◌, Option, Some, None, List, [], ◌∷◌, refl, sym, ap, ◌∙◌, subst, ◌⊎◌, inl, inr}
 use Rattle.std.specs.Prelude.{codes, if◌then◌else◌, nat_le, encode_utf8}
-use Rattle.std.specs.Str.{chars, all_scalars}
+use Rattle.std.specs.Str.{all_scalars}
 use Rattle.elm_base.specs.declared.term.RunFault.{RunFault}
-use Rattle.elm_base.specs.declared.term.NoteKind.{NoteKind}
 use Rattle.elm_base.specs.declared.term.RunFault.TheVariants as fault
-use Rattle.elm_typing.specs.Ground.{Ground, Grounds, Row, NoGrounds, AndGround}
+use Rattle.elm_typing.specs.Ground.{Ground, NoGrounds, AndGround}
 use Rattle.elm_typing.specs.Flags.{IsAppendable, IsComparable}
-use Rattle.elm_typing.specs.Names.{int_name, char_name, string_name, list_name, list_of, signal_of}
+use Rattle.elm_typing.specs.Names.{list_of}
 use Rattle.elm_typing.specs.Spelling.{int, char, string, bool, result_of}
 use Rattle.elm_meaning.specs.declared.compared.Outcome.{Outcome}
 use Rattle.elm_meaning.specs.declared.compared.Outcome.TheVariants.{Less, Equal, Greater, Different, FunctionMet, OutOfFuel}
 use Rattle.elm_meaning.specs.declared.compared.Comparison.TheVariants.{Equality, Order}
-use Rattle.elm_meaning.specs.Values.{Value, Values, Int, Char, Text, Unit as UnitValue, Nil, Cons, Tuple, Made, Record, Applicable, Cells, Signal, NoValues, AndValue}
+use Rattle.elm_meaning.specs.Values.{Value, Int, Char, Text, Nil, Cons, Made, NoValues, AndValue}
 use Rattle.elm_meaning.specs.Answers.{Answer, Gives, Faults, named, truth}
-use Rattle.elm_meaning.specs.Arithmetic.{fits, number, divided, with_sign_of, add, subtract, multiply, divide, modulo, remainder}
+use Rattle.elm_meaning.specs.Arithmetic.{fits, number, divided}
 use Rattle.elm_meaning.specs.Comparisons.{equality, order}
 use Rattle.elm_meaning.specs.PairsVisited.{visited}
-use Rattle.elm_meaning.specs.Texts.{join, join_lists, is_list, begins_list, in_front, char_of, char_list, list_bytes, with_char, text_or_none, from_list, read_number, no_number, numeral}
+use Rattle.elm_meaning.specs.Texts.{join, join_lists, is_list, begins_list, in_front, char_of, char_list, list_bytes, with_char, text_or_none, from_list, read_number, no_number}
 use Rattle.elm_meaning.specs.Layout.{Grid, laid_out, element_of, grids_of, with_grid, grid_of}
-use Rattle.typing_rules.specs.Unions.{Union, parameters_in, union_named, AllAllowed, parts_of}
+use Rattle.typing_rules.specs.Unions.{parameters_in, union_named, AllAllowed, parts_of}
 use Rattle.typing_rules.specs.Library.{element, library_unions}
 use Rattle.typing_rules.specs.Worlds.{World, IsProper}
-use Rattle.typing_rules.specs.TermTypes.{ValueHas, AreTaken}
+use Rattle.typing_rules.specs.TermTypes.{ValueHas}
 use Rattle.typing_sound.specs.Safe.{HasLibrary, GivesTyped}
 use Rattle.typing_sound.proofs.Canonical.{char_value, text_value, list_value, cells_value, opaque_value}
 use Rattle.typing_sound.proofs.Comparing.{IsFound, IsOrdered, equality_found, order_found}

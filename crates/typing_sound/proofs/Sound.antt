@@ -1,47 +1,45 @@
 -- A well-typed term never has an ill-typed case: its evaluation is safe.
-use Rattle.std.proofs.Common.{◌≡◌, ℕ, zero, suc, ◌<◌, ◌≤◌, ◌+◌, ◌==◌, ◌-◌, ℤ, pos, negsuc, Bool, true, false, Option, Some, None, List, [], ◌∷◌, ◌++◌, length, refl, sym, ap, ◌∙◌, subst, arith}
+use Rattle.std.proofs.Common.{◌≡◌, ℕ, zero, suc, ◌<◌, ◌+◌, ◌==◌, ◌-◌, ℤ, pos, Bool, true, false, Option, Some, None, List, [], ◌∷◌, ◌++◌, length, refl, sym, ap, ◌∙◌, subst, arith}
 use Rattle.std.specs.Prelude.{if◌then◌else◌, codes, slice_get, nat_lt, nat_le, ◌+ℤ◌, ◌-ℤ◌}
 use Rattle.std.specs.Str.{bytes_eq}
 use Rattle.std.proofs.lemmas.Bool.{eqb-true, eqb-false}
 use Rattle.elm_base.specs.declared.term.RunFault.TheVariants as fault
-use Rattle.elm_typing.specs.Ground.{Ground, Grounds, Row, NoGrounds, AndGround, Ends}
+use Rattle.elm_typing.specs.Ground.{Ground, Grounds, Row, Ends}
 use Rattle.elm_typing.specs.Names.{list_of, signal_of}
-use Rattle.elm_typing.specs.Sorts.{Sort, Simple, Signal, sort_of, IsAtMost, IsWellSorted, AreSimple, HasSimpleFields}
+use Rattle.elm_typing.specs.Sorts.{Simple, Signal, sort_of, AreSimple, HasSimpleFields}
 use Rattle.elm_typing.specs.Spelling.{int, bool}
 use Rattle.elm_typing.specs.Rows as rows
 use Rattle.elm_meaning.specs.declared.callee.Callee.{Callee}
 use Rattle.elm_meaning.specs.declared.callee.Callee.TheVariants as callee
 use Rattle.elm_meaning.specs.Patterns.{Pattern}
-use Rattle.elm_meaning.specs.Values.{Value, Values, Fields, Function, Int, Nil, Cons, Tuple, Made, Record, Applicable, Signal as SignalValue, NoValues, AndValue, NoFields, AndField, Closure, Member, Partial, Tree, Done, Local, Top, Input, Lambda, Call, If, Guards, Case, LetValue, LetFunctions, TupleTree, ListTree, Range, RecordTree, Update, Extend, Remove, Field, NoTree, Trees, NoTrees, AndTree, FieldTrees, NoFieldTrees, AndFieldTree, GuardedTrees, NoGuards, AndGuard, Branches, NoBranches, AndBranch, Group, NoFunctions, AndFunction}
+use Rattle.elm_meaning.specs.Values.{Value, Values, Fields, Function, Int, Cons, Tuple, Made, Record, Applicable, Signal as SignalValue, NoValues, AndValue, NoFields, Closure, Member, Partial, Tree, Done, Local, Top, Input, Lambda, Call, If, Guards, Case, LetValue, LetFunctions, TupleTree, ListTree, Range, RecordTree, Update, Extend, Remove, Field, NoTree, Trees, NoTrees, AndTree, FieldTrees, NoFieldTrees, AndFieldTree, GuardedTrees, NoGuards, AndGuard, Branches, NoBranches, AndBranch, Group, NoFunctions, AndFunction}
 use Rattle.elm_meaning.specs.FreeNames.{function_names}
 use Rattle.elm_meaning.specs.Records as record_of
 use Rattle.elm_meaning.specs.Records.{put_all}
 use Rattle.elm_meaning.specs.Matching.{Bindings, matching, names_of}
-use Rattle.elm_meaning.specs.Substitution.{Names, no_names, bind, bind_all, bind_from, bind_group, hide_all, hide_group, fill, fill_group}
-use Rattle.elm_meaning.specs.Answers.{Answer, Gives, Faults, Reply, named}
+use Rattle.elm_meaning.specs.Substitution.{Names, no_names, bind, bind_all, bind_group, hide_all, hide_group, fill, fill_group}
+use Rattle.elm_meaning.specs.Answers.{Answer, Gives, Faults}
 use Rattle.elm_meaning.specs.Equations.{Equation}
 use Rattle.elm_meaning.specs.NativeTable.{Native, IsValue, Replies, MakesNode, native_at, takes_of}
-use Rattle.elm_meaning.specs.Progress.{Stage, State, Ending, Returns, Stops, NoRule, with_left, with_notes, with_equations, then_do, spend_where, spend, answered, replied, add_behind, add_node, made_node}
+use Rattle.elm_meaning.specs.Progress.{Stage, State, Ending, Returns, Stops, with_left, with_notes, with_equations, spend_where, answered, replied, add_behind, add_node, made_node}
 use Rattle.elm_meaning.specs.Calls.{applied}
 use Rattle.elm_meaning.specs.Evaluation.{Bodies, where_fits, with_argument, number_of, list_of as listed_values, constructed, where_all, native_given, given, member_entered, entered, apply, truth_of, if_true, if_fits, listed, range_length, numbers_from, ranged, record_or_none, value_or_none, set_all, updated, extended, removed, field_of, with_bodies, with_all, with_fields, with_guards, with_branches, to_depth, evaluate}
-use Rattle.typing_rules.specs.Unions.{Union, UnionGives, ConstructorGives, GivesWhere, count_of, arrows}
-use Rattle.typing_rules.specs.Library.{signature_of}
+use Rattle.typing_rules.specs.Unions.{UnionGives, GivesWhere}
 use Rattle.typing_rules.specs.CorePatterns.{CorePattern, core_pattern, Fits}
-use Rattle.typing_rules.specs.Worlds.{Types, Surroundings, no_surroundings, exactly, with_name, Bound, with_bound, World, IsProper, MayStandIn}
-use Rattle.typing_rules.specs.Rules.{Abstracted, Branch, Defined, TakenApart, NamedValue, Typings, type_at, under_work, GivenBy, generalised, NativeGives}
+use Rattle.typing_rules.specs.Worlds.{Surroundings, no_surroundings, with_name, Bound, with_bound, World, IsProper, MayStandIn}
+use Rattle.typing_rules.specs.Rules.{Abstracted, Defined, TakenApart, NamedValue, type_at, under_work, generalised, NativeGives}
 use Rattle.typing_rules.specs.TermTypes.{CalleeGives, takes, ValueHas, ValuesHave, FieldsHave, AreTaken, FunctionHas, TermHas, AllHave, EachHas, GuardsHave, BranchesHave, FieldsOver, NewestAre, EachFunctionHas, GroupHas}
 use Rattle.typing_rules.specs.Nodes.{values, NativeCall, CallGives, call_of, EquationHas, at_equations}
 use Rattle.typing_sound.specs.Safe.{HasLibrary, GivesTyped, MakesTyped}
 use Rattle.typing_sound.specs.SafeEndings.{at_stage, Grows, IsSafe, TopsTyped, Fills, FillsAt}
-use Rattle.typing_sound.proofs.Combine.{Sub, Within, same, same_within, Alike}
-use Rattle.typing_sound.proofs.Monotone.{Below, callee_more, taken_more, value_more, values_more, term_more, all_more, each_more, guards_more, branches_more, over_more, newest_more}
-use Rattle.typing_sound.proofs.Filled.{Paired, paired, fills_work, filled_names, functions_filled, term_filled}
-use Rattle.typing_sound.proofs.Bound.{some_is, same_bytes, BindsHave, MatchHas, match_has, newest_has, Typed, typed_nothing, typed_name, typed_less, typed_bound, typed_group, work_given}
+use Rattle.typing_sound.proofs.Combine.{same_within}
+use Rattle.typing_sound.proofs.Monotone.{Below, callee_more, taken_more, term_more, all_more, each_more, guards_more, branches_more, over_more, newest_more}
+use Rattle.typing_sound.proofs.Filled.{paired, fills_work, filled_names, functions_filled, term_filled}
+use Rattle.typing_sound.proofs.Bound.{some_is, BindsHave, MatchHas, match_has, newest_has, Typed, typed_nothing, typed_name, typed_less, typed_bound, typed_group, work_given}
 use Rattle.typing_sound.proofs.Canonical.{bool_value, int_value, record_value, function_value}
 use Rattle.typing_sound.proofs.Natives.{safe_native}
-use Rattle.typing_sound.proofs.Functions.{IsFunction}
-use Rattle.typing_sound.proofs.RecordValues.{extended_simple, newest_simple, remove_field_has, PutHave, put_all_has, SetHave, set_all_has, put_later, set_later}
-use Rattle.typing_sound.proofs.Stages.{stage_below, stages_below, value_later, typed_later, grows_same, grows_then, sort_case, simple_below, at_most_itself, simple_at_most, safe_later, then_all, then_one, node_added, order_added}
+use Rattle.typing_sound.proofs.RecordValues.{extended_simple, newest_simple, remove_field_has, PutHave, put_all_has, SetHave, set_all_has}
+use Rattle.typing_sound.proofs.Stages.{stage_below, stages_below, value_later, typed_later, grows_same, grows_then, at_most_itself, simple_at_most, then_all, then_one, node_added, order_added}
 
 -- the types of terms are proper
 proper_of : (w : World) (s : Surroundings) (e : Tree) (t : Ground) → TermHas w s e t → IsProper w t

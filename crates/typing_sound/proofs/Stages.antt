@@ -1,19 +1,18 @@
 -- Equations are added behind, and what was typed before stays typed.
-use Rattle.std.proofs.Common.{◌≡◌, ℕ, zero, suc, ◌<◌, ◌≤◌, ◌+◌, ◌==◌, Bool, true, false, Option, Some, None, List, [], ◌∷◌, ◌++◌, length, refl, sym, ap, ◌∙◌, subst, arith}
+use Rattle.std.proofs.Common.{◌≡◌, ℕ, suc, ◌<◌, ◌+◌, ◌==◌, Bool, true, false, Some, None, List, [], ◌∷◌, ◌++◌, length, refl, sym, ap, ◌∙◌, subst, arith}
 use Rattle.std.proofs.lemmas.List.{append_assoc}
 use Rattle.std.proofs.lemmas.Bool.{eq-eqb, eqb-true}
 use Rattle.elm_typing.specs.Ground.{Ground}
-use Rattle.elm_typing.specs.Names.{signal_of}
 use Rattle.elm_typing.specs.Sorts.{Sort, Simple, Signal, sort_of, IsAtMost}
 use Rattle.elm_meaning.specs.Values.{Value}
 use Rattle.elm_meaning.specs.Substitution.{Names}
 use Rattle.elm_meaning.specs.Equations.{Equation}
 use Rattle.elm_meaning.specs.Progress.{Stage, State, Ending, Returns, Stops, NoRule, then_do}
-use Rattle.typing_rules.specs.Worlds.{Types, Surroundings, no_surroundings, Either, with_name, World, with_nodes, MayStandIn}
+use Rattle.typing_rules.specs.Worlds.{Types, Surroundings, no_surroundings, Either, World, MayStandIn}
 use Rattle.typing_rules.specs.TermTypes.{ValueHas}
 use Rattle.typing_rules.specs.Nodes.{EquationHas, with_node, with_equations, without_nodes, at_equations, AreInOrder, AreWellTyped}
 use Rattle.typing_sound.specs.SafeEndings.{at_stage, Grows, IsSafe}
-use Rattle.typing_sound.proofs.Combine.{Sub, same, Alike, same_world}
+use Rattle.typing_sound.proofs.Combine.{Sub, same, same_world}
 use Rattle.typing_sound.proofs.Monotone.{Below, value_more}
 use Rattle.typing_sound.proofs.Bound.{Typed}
 

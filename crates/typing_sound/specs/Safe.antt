@@ -1,5 +1,5 @@
 -- What it is for a native to be safe: given values of its argument types it gives a value of its result type, or a fault.
-use Rattle.std.specs.Prelude.{◌≡◌, ℕ, Option, Some, None, List, [], ◌∷◌, ◌++◌}
+use Rattle.std.specs.Prelude.{◌≡◌, ℕ, Option, Some, None, List, ◌++◌}
 use Rattle.elm_typing.specs.Ground.{Ground}
 use Rattle.elm_typing.specs.Names.{signal_of}
 use Rattle.elm_meaning.specs.Values.{Values}

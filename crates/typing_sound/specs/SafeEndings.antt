@@ -1,5 +1,5 @@
 -- What it is for an evaluation to be safe: it gives a value of the term's type, or ends in a fault.
-use Rattle.std.specs.Prelude.{◌≡◌, ℕ, Option, Some, None, List, [], ◌∷◌, ◌++◌, slice_get}
+use Rattle.std.specs.Prelude.{◌≡◌, ℕ, Option, Some, None, List, ◌++◌, slice_get}
 use Rattle.elm_typing.specs.Ground.{Ground}
 use Rattle.elm_typing.specs.Sorts.{Simple, Signal, sort_of}
 use Rattle.elm_meaning.specs.Values.{Value}
