@@ -10,4 +10,5 @@ pub mod Natives
 pub mod Stages
 pub mod RecordValues
 pub mod Sound
+pub mod Erased
 pub mod Laws

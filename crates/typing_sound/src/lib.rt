@@ -2,10 +2,12 @@
 //! The functions here have no work to do: their contracts state laws of the definitions.
 #![tactic(auto)]
 
+mod erasing_laws;
 mod native_laws;
 mod soundness_laws;
 mod surroundings_laws;
 
+pub use erasing_laws::erasing_keeps_types;
 pub use native_laws::natives_are_safe;
 pub use soundness_laws::{
     equations_are_well_typed_in_order, simple_terms_make_no_node,
