@@ -11,4 +11,5 @@ pub mod Stages
 pub mod RecordValues
 pub mod Sound
 pub mod Erased
+pub mod Used
 pub mod Laws

@@ -14,4 +14,6 @@ pub use soundness_laws::{
     values_have_the_types_of_their_terms, well_typed_calls_are_safe, well_typed_terms_are_safe,
     well_typed_terms_have_rules,
 };
-pub use surroundings_laws::{more_surroundings_type_no_less, substitution_keeps_types};
+pub use surroundings_laws::{
+    more_surroundings_type_no_less, only_used_names_matter, substitution_keeps_types,
+};

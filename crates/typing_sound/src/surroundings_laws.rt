@@ -1,8 +1,9 @@
 //! Laws of surroundings. The bodies are empty: what is stated holds of the definitions.
 
-ghost use Rattle.std.specs.Prelude.{ℕ};
+ghost use Rattle.std.specs.Prelude.{◌≡◌, ℕ, true};
 ghost use Rattle.elm_typing.specs.Ground.{Ground};
 ghost use Rattle.elm_meaning.specs.Values.{Tree};
+ghost use Rattle.elm_meaning.specs.FreeNames.{free_names, is_among};
 ghost use Rattle.elm_meaning.specs.Substitution.{Names, fill};
 ghost use Rattle.typing_rules.specs.TermTypes.{TermHas};
 ghost use Rattle.typing_sound.specs.SafeEndings.{Fills};
@@ -22,4 +23,13 @@ pub fn substitution_keeps_types()
         Fills (world_of p) (types_in (world_of p) before) σ (types_in (world_of p) after) →
         TermHas (world_of p) (types_in (world_of p) before) e t →
         TermHas (world_of p) (types_in (world_of p) after) (fill e σ) t }
+{}
+
+/// Only the names that stand free in a term matter.
+pub fn only_used_names_matter()
+    ensures { (p : Setting) (inner outer : Scope) (e : Tree) (t : Ground) →
+        ((y : ℕ) → is_among y (free_names e) ≡ true →
+        (u : Ground) → types_in (world_of p) inner y u → types_in (world_of p) outer y u) →
+        TermHas (world_of p) (types_in (world_of p) inner) e t →
+        TermHas (world_of p) (types_in (world_of p) outer) e t }
 {}
