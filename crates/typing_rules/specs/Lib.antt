@@ -1,0 +1,12 @@
+pub mod WrittenTypes
+pub mod Unions
+pub mod Library
+pub mod Worlds
+pub mod CorePatterns
+pub mod Rules
+pub mod TermTypes
+pub mod Core
+pub mod CoreTypes
+pub mod TopGroups
+pub mod TypingExamples
+pub mod Nodes

@@ -1,0 +1,15 @@
+pub mod Combine
+pub mod Monotone
+pub mod Filled
+pub mod Bound
+pub mod Functions
+pub mod Canonical
+pub mod Comparing
+pub mod Replies
+pub mod Natives
+pub mod Stages
+pub mod RecordValues
+pub mod Sound
+pub mod Erased
+pub mod Used
+pub mod Laws
