@@ -95,6 +95,11 @@ abbrev pub field_opening : Option (List ℕ × ℕ) → Option (List ℕ × ℕ)
 field_opening (Some f) (Some g) = shown_field (bytes_eq f.0 g.0) g.0
 field_opening _ _ = codes " }"
 
+-- where one of two fields is missing nothing but the end follows
+abbrev pub AreNone : Option (List ℕ × ℕ) → Option (List ℕ × ℕ) → Type 0
+AreNone (Some f) (Some g) = ⊥
+AreNone _ _ = Unit {0}
+
 abbrev pub written : List Node → Piece → List ℕ
 written nodes (Whole at) = opening_of (slice_get nodes at)
 written nodes (Rest at) = element_opening (slice_get nodes at)

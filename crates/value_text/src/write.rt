@@ -1,10 +1,10 @@
 //! The text of a value, piece by piece. The pieces that are still to be written wait on a stack of their own, so it
 //! doesn't matter how deep the value is.
-ghost use Rattle.std.specs.Prelude.{◌≡◌, ◌<◌, ◌++◌, suc, length, nat_le, slice_get, Some, IfOk, OnOk, OnErr, [], codes, if◌then◌else◌};
+ghost use Rattle.std.specs.Prelude.{◌≡◌, ◌<◌, ◌++◌, suc, length, nat_le, slice_get, Some, None, IfOk, OnOk, OnErr, OnSome, MatchOption, [], codes, if◌then◌else◌};
 ghost use Rattle.elm_meaning.specs.Texts.{char_count};
 ghost use Rattle.elm_meaning.specs.ValueText.{text_of};
 ghost use Rattle.value_arena.specs.Unfolding.{Lambdas, unfolded};
-ghost use Rattle.value_text.specs.Pieces.{refs_of as refs_in, fields_of as fields_in, opening, opening_fields, element_opening, more_of_list, inner, first_part, first_field, comma_or, then_part, argument_opening, then_argument, bracketed, field_opening, then_field, shown_field, shown_value, has_arguments, written, next, PieceBelow};
+ghost use Rattle.value_text.specs.Pieces.{refs_of as refs_in, fields_of as fields_in, opening, opening_fields, element_opening, more_of_list, inner, first_part, first_field, comma_or, then_part, argument_opening, then_argument, bracketed, field_opening, then_field, shown_field, shown_value, has_arguments, written, next, PieceBelow, AreNone};
 ghost use Rattle.value_arena.specs.Soundness.{RefsBelow};
 ghost use Rattle.value_text.specs.Answers.{Says, Appends};
 
@@ -50,6 +50,7 @@ fn write(
     ensures { IfOk result (λ within. (lambdas : Lambdas) → Says within limit
         (text_of (unfolded lambdas arena.now at)) text.new.items) }
 {
+    arena.unfolds();
     let mut pending = Vec::new(alloc);
     pending.push(Piece::Whole { at })?;
     let mut budget = Budget {
@@ -59,7 +60,8 @@ fn write(
     'pieces: while let Some(piece) = pending.pop() {
         let before = text.len();
         visit(arena, piece, text, &mut pending)?;
-        match spent(budget, &text.as_slice()[before..]) {
+        let (_, written) = text.as_slice().split_at(before);
+        match spent(budget, written) {
             Some(after) => budget = after,
             None => return Ok(false),
         }
@@ -85,9 +87,7 @@ fn visit(
             push_inner(at, node, pending)
         }
         Piece::Rest { at } => rest(arena.node(at), text, pending),
-        Piece::Parts { at, from } => {
-            part(refs_of(arena.node(at)), (at, from), text, pending)
-        }
+        Piece::Parts { at, from } => { part(refs_of(arena.node(at)), (at, from), text, pending) }
         Piece::Arguments { at, from } => {
             argument(arena, refs_of(arena.node(at)), (at, from), text, pending)
         }
@@ -239,6 +239,17 @@ fn fields_of(node: &Node) -> &[(Name, Ref)]
     }
 }
 
+/// The part at a place and the place behind it, where there is one.
+fn part_at(refs: &[Ref], from: usize) -> Option<(Ref, usize)>
+    ensures { MatchOption result (slice_get refs.now from ≡ None)
+        (λ p. (slice_get refs.now from ≡ Some p.0) × (p.1 ≡ suc from)) }
+{
+    if from >= refs.len() {
+        return None;
+    }
+    Some((refs[from], from + 1))
+}
+
 /// A further part of the tuple at a place, or its end.
 fn part(
     refs: &[Ref],
@@ -252,13 +263,14 @@ fn part(
         (pending.new.items ≡ pending.old.items ++ then_part place.0 place.1 (slice_get refs.now place.1)) }
 {
     let (at, from) = place;
-    if from >= refs.len() {
-        text.push(b')')?;
-        return Ok(());
+    match part_at(refs, from) {
+        None => text.push(b')')?,
+        Some((part, behind)) => {
+            text.push(b',')?;
+            pending.push(Piece::Parts { at, from: behind })?;
+            pending.push(Piece::Whole { at: part })?;
+        }
     }
-    text.push(b',')?;
-    pending.push(Piece::Parts { at, from: from + 1 })?;
-    pending.push(Piece::Whole { at: refs[from] })?;
     Ok(())
 }
 
@@ -278,12 +290,14 @@ fn argument(
         ≡ pending.old.items ++ then_argument arena.now place.0 place.1 (slice_get refs.now place.1)) }
 {
     let (at, from) = place;
-    if from >= refs.len() {
-        return Ok(());
+    match part_at(refs, from) {
+        None => {}
+        Some((argument, behind)) => {
+            pending.push(Piece::Arguments { at, from: behind })?;
+            push_argument(argument, arena.node(argument), text, pending)?;
+        }
     }
-    let argument = refs[from];
-    pending.push(Piece::Arguments { at, from: from + 1 })?;
-    push_argument(argument, arena.node(argument), text, pending)
+    Ok(())
 }
 
 /// An argument, in brackets where it is a constructor with arguments.
@@ -320,6 +334,19 @@ fn takes_brackets(node: &Node) -> bool
     }
 }
 
+/// The fields at a place and behind it, where there are both.
+fn neighbours(fields: &[(Name, Ref)], last: usize) -> Option<(&(Name, Ref), &(Name, Ref))>
+    ensures found { MatchOption result (AreNone (slice_get fields.now last) (slice_get fields.now (suc last)))
+        (λ p. (slice_get fields.now last ≡ Some p.0.now)
+        × (slice_get fields.now (suc last) ≡ Some p.1.now)) }
+    ensures within { OnSome result (last < 18446744073709551615) }
+{
+    if last >= fields.len() || last + 1 >= fields.len() {
+        return None;
+    }
+    Some((&fields[last], &fields[last + 1]))
+}
+
 /// The field behind another one of the record at a place, or its end. Of one label only the first field is seen.
 fn field(
     fields: &[(Name, Ref)],
@@ -334,13 +361,15 @@ fn field(
         (slice_get fields.now (suc place.1))) }
 {
     let (at, last) = place;
-    if last >= fields.len() || last + 1 >= fields.len() {
-        text.extend_from_slice(b" }")?;
-        return Ok(());
+    match neighbours(fields, last) {
+        None => text.extend_from_slice(b" }")?,
+        Some((before, behind)) => {
+            let hidden = before.0.bytes() == behind.0.bytes();
+            pending.push(Piece::Fields { at, last: last + 1 })?;
+            push_field(hidden, behind, text, pending)?;
+        }
     }
-    let (before, behind) = (&fields[last], &fields[last + 1]);
-    pending.push(Piece::Fields { at, last: last + 1 })?;
-    push_field(before.0.bytes() == behind.0.bytes(), behind, text, pending)
+    Ok(())
 }
 
 /// A field, unless it is hidden.
