@@ -2,6 +2,7 @@
 """Times the built programs on inputs of growing size: the best of several runs counts.
 
 usage: bench/bench.py NAME..    NAME: lexer, parser, stack, modules, types, arena, lines, reactor
+usage: bench/bench.py NAME..    NAME: lexer, parser, stack, types, arena, prims, lines, reactor
 
 The programs are those that `rt run` leaves in crates/NAME/out. Each row has the input, the best time and the greatest
 memory of a run. Figures of a machine that is busy with other work are worth little.
@@ -88,11 +89,14 @@ def modules(folder):
 
 
 def by_numbers(name, rows):
-    """Programs that read two numbers, less the time of a run with nothing to do."""
+    """Programs that read numbers, less the time of a run with nothing to do."""
+    def words(numbers):
+        return (" ".join(map(str, numbers)) + "\n").encode()
+
     def timed(folder):
-        start = best([program(name)], written(folder, b"0 0\n"))[0]
-        for first, second in rows:
-            spent, memory, _, said, _ = best([program(name)], written(folder, f"{first} {second}\n".encode()))
+        start = best([program(name)], written(folder, words([0] * len(rows[0]))))[0]
+        for numbers in rows:
+            spent, memory, _, said, _ = best([program(name)], written(folder, words(numbers)))
             row(said.replace("\n", "; "), spent - start, memory)
     return timed
 
@@ -130,6 +134,7 @@ BENCHES = {
     "stack": stack,
     "modules": modules,
     "types": by_numbers("types_bench", [(500, 0), (1000, 0), (2000, 0), (0, 10000), (0, 20000)]),
+    "prims": by_numbers("prims_bench", [(100000,), (200000,), (1000000,)]),
     "arena": by_numbers("arena_bench", [(50000, 0), (100000, 0), (0, 500000), (0, 1000000)]),
     "lines": lines,
     "reactor": reactor,

@@ -1,10 +1,20 @@
 -- Elements: rectangles of cells, and how they are laid out.
-use Rattle.std.specs.Prelude.{ℕ, ℤ, pos, negsuc, ◌+◌, ◌-◌, ◌*◌, ◌/◌, ◌-ℤ◌, max, ◌&&◌, ◌||◌, if◌then◌else◌, ◌==◌, nat_lt, nat_le, Option, Some, None, List, [], ◌∷◌, ◌++◌, length, map, reverse, replicate, slice_index_or, codes}
+use Rattle.std.specs.Prelude.{◌≡◌, ℕ, ℤ, true, pos, negsuc, ◌+◌, ◌-◌, ◌*◌, ◌/◌, ◌-ℤ◌, max, ◌&&◌, ◌||◌, if◌then◌else◌, ◌==◌, nat_lt, nat_le, Option, Some, None, List, [], ◌∷◌, ◌++◌, length, map, reverse, replicate, slice_index_or, codes}
 use Rattle.std.specs.List.{range_with_len}
-use Rattle.std.specs.Str.{chars, encode_utf8_all, bytes_eq}
+use Rattle.std.specs.Str.{chars, is_utf8, encode_utf8_all, bytes_eq}
 use Rattle.elm_base.specs.declared.term.RunFault.TheVariants.{ElementTooLarge}
 use Rattle.elm_meaning.specs.Values.{Value, Int, Text, Nil, Cons, Made, Cells, NoValues}
 use Rattle.elm_meaning.specs.Answers.{Answer, Gives, Faults, Reply, free, after, no_reply}
+use Rattle.elm_meaning.specs.Texts.{where_text}
+
+-- each row is a text of as many chars
+abbrev pub RowsHave : ℕ → List (List ℕ) → Type 0
+RowsHave width [] = Unit {0}
+RowsHave width (row ∷ rows) = (is_utf8 row ≡ true) × (length (chars row) ≡ width) × RowsHave width rows
+
+-- an Element has the rows that it says
+abbrev pub HasRows : ℕ → ℕ → List (List ℕ) → Type 0
+HasRows width height rows = (length rows ≡ height) × RowsHave width rows
 
 -- the rows of an Element as the codes of their chars
 pub record Grid : Type 0 where
@@ -129,7 +139,8 @@ size (negsuc n) = 0
 
 abbrev pub text : List Value → Reply
 text (Text bytes ∷ []) =
-    let g = text_grid (chars bytes) in after (length (chars bytes) + cell_count g) (laid_out g)
+    let g = text_grid (chars bytes) in
+    where_text (is_utf8 bytes) (after (length (chars bytes) + cell_count g) (laid_out g))
 text _ = no_reply
 
 abbrev pub spacer : List Value → Reply

@@ -4,7 +4,7 @@
 ghost use Rattle.std.specs.Prelude.{◌≡◌, [], ◌∷◌};
 ghost use Rattle.elm_base.specs.declared.native.TheConstants.{TEXT, SPACER, FLOW, CONTAINER, WIDTH_OF, HEIGHT_OF};
 ghost use Rattle.elm_base.specs.declared.term.RunFault.TheVariants.{ElementTooLarge};
-ghost use Rattle.elm_meaning.specs.Values.{Unit};
+ghost use Rattle.elm_meaning.specs.Values.{Unit, Text};
 ghost use Rattle.elm_meaning.specs.Answers.{Gives, Faults, free, after, no_reply};
 ghost use Rattle.elm_meaning.specs.NativeTable.{reply};
 ghost use Rattle.elm_meaning.specs.Spelling.{int, minus, text, list, made, element};
@@ -19,6 +19,7 @@ pub fn texts_are_rows()
         ≡ after 8 (Gives (element 4 1 ("?? ?" ∷ []))) }
     ensures wide { reply TEXT (text "ä\u{80}" ∷ [])
         ≡ after 4 (Gives (element 2 1 ("ä\u{80}" ∷ []))) }
+    ensures no_text { reply TEXT (Text (195 ∷ []) ∷ []) ≡ no_reply }
 {}
 
 /// Spaces of a size; a negative size is 0. More than 1,000 cells are too large, after the work.

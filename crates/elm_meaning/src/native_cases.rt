@@ -4,7 +4,7 @@
 ghost use Rattle.std.specs.Prelude.{◌≡◌, true, false, codes, [], ◌∷◌};
 ghost use Rattle.elm_base.specs.declared.native.TheConstants.{ADD, SUBTRACT, MULTIPLY, DIVIDE, MODULO, REMAINDER, NEGATE, EQUAL, NOT_EQUAL, LESS, GREATER, AT_MOST, AT_LEAST, COMPARE, JOIN, TO_STRING, CHAR_TO_CODE, CHAR_FROM_CODE, STRING_LENGTH, STRING_REVERSE, STRING_TO_LIST, STRING_FROM_LIST, STRING_TO_INT, WATCH, LOG, CRASH};
 ghost use Rattle.elm_base.specs.declared.term.RunFault.TheVariants.{IntRange, DivideByZero, CharRange, FunctionEquality, Crash};
-ghost use Rattle.elm_meaning.specs.Values.{Unit};
+ghost use Rattle.elm_meaning.specs.Values.{Unit, Text};
 ghost use Rattle.elm_meaning.specs.Answers.{Answer, Gives, Faults, free, after, no_reply, truth};
 ghost use Rattle.elm_meaning.specs.NativeTable.{reply};
 ghost use Rattle.elm_meaning.specs.Spelling.{int, minus, char, text, list, tuple, made, native_value, bytes, watched, logged};
@@ -125,6 +125,8 @@ pub fn texts_are_lists_of_chars()
         ≡ after 2 (Gives (list (char "ä" ∷ char "b" ∷ []))) }
     ensures text { reply STRING_FROM_LIST (list (char "ä" ∷ char "b" ∷ []) ∷ [])
         ≡ after 2 (Gives (text "äb")) }
+    ensures no_text { reply STRING_TO_LIST (Text (97 ∷ 195 ∷ []) ∷ []) ≡ no_reply }
+    ensures surrogate { reply STRING_REVERSE (Text (237 ∷ 160 ∷ 128 ∷ []) ∷ []) ≡ no_reply }
     ensures no_chars { reply STRING_FROM_LIST (list (char "a" ∷ int 1 ∷ []) ∷ [])
         ≡ after 2 Answer.NoRule }
 {}

@@ -9,6 +9,9 @@ mod refusals;
 mod types;
 mod worked;
 
+pub use cell_rows::{
+    Cells, Direction, Position, Size, container, flow, grown, spacer, text_cells, text_size,
+};
 pub use faults::{write_fault, write_shelf_failure};
 pub use frame::write_frame;
 pub use parts::Parts;

@@ -1,0 +1,9 @@
+mod Codes
+mod Grids
+mod TextLines
+mod Above
+mod Beside
+mod Framed
+mod Replies
+mod Steps
+mod Lays

@@ -1,0 +1,4 @@
+pub mod Elements
+pub mod Lines
+pub mod Flows
+pub mod Frames

@@ -1,0 +1,4 @@
+pub mod Counting
+pub mod Pieces
+pub mod Sizes
+pub mod Answers
