@@ -1,3 +1,4 @@
 pub mod Faces
 pub mod Lookup
 pub mod Split
+pub mod Walks
