@@ -1,4 +1,6 @@
+pub mod Defaults
 pub mod Faces
+pub mod Flaws
 pub mod Lookup
 pub mod Split
 pub mod Walks

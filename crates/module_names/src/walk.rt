@@ -95,12 +95,7 @@ impl Walk {
     }
 
     /// Goes through the steps.
-    pub fn walk(
-        &mut self,
-        alloc: Global,
-        scope: &Scope<'_>,
-        steps: &[Step],
-    ) -> Result<(), NoMemory>
+    pub fn walk(&mut self, alloc: Global, scope: &Scope<'_>, steps: &[Step]) -> Result<(), NoMemory>
         ensures { OnOk result (self.new ≡ spec.walked (scope_of scope.now) self.old steps.now) }
     {
         for step in steps {
@@ -119,12 +114,7 @@ fn push_spots(alloc: Global, spots: &[Spot], out: &mut Vec<Spot>) -> Result<(), 
     Ok(())
 }
 
-fn use_of(
-    alloc: Global,
-    scope: &Scope<'_>,
-    locals: &[Spot],
-    spot: &Spot,
-) -> Result<Use, NoMemory>
+fn use_of(alloc: Global, scope: &Scope<'_>, locals: &[Spot], spot: &Spot) -> Result<Use, NoMemory>
     ensures { IfOk result (λ given. given ≡ spec.use_of (scope_of scope.now) locals.now spot.now) }
 {
     let answer = name_at(alloc, scope, locals, spot.name.bytes())?;
