@@ -9,6 +9,7 @@ mod imported;
 mod lookup;
 mod split;
 mod walk;
+mod whole;
 
 pub use defaults::defaults_for;
 pub use face::{Face, face_of};
@@ -16,3 +17,4 @@ pub use flaws::Flaw;
 pub use found::Answer;
 pub use lookup::{Scope, name_at};
 pub use walk::{Use, Walk};
+pub use whole::{Named, named_module};
