@@ -98,6 +98,10 @@ expr_step (tree.Let at parts body) = plain at (let_steps at parts body)
 expr_step (tree.Case at scrutinee branches) =
     plain at (scrutinee.steps ++ flat_map (λ branch. in_scope (pattern_steps branch.0 ++ branch.1.steps)) branches)
 
+-- a definition of this name, which is empty where a pattern is defined
+abbrev pub defined_of : At → List ℕ → List Spot → Bool → Defined
+defined_of at name binds function = record { at = at; name = name; binds = binds; function = function }
+
 -- whether there are any
 abbrev pub are_some : {X : Type 0} → List X → Bool
 are_some [] = false
@@ -105,15 +109,15 @@ are_some (x ∷ more) = true
 
 abbrev pub declaration_step : tree.Declaration-F Part Read Field → Part
 declaration_step (tree.Definition at name patterns body) = record {
-  definitions = record { at = at; binds = spot_of at name ∷ []; function = are_some patterns || body.lambda } ∷ [];
+  definitions = defined_of at name (spot_of at name ∷ []) (are_some patterns || body.lambda) ∷ [];
   steps = in_scope (patterns_steps patterns ++ body.steps);
 }
 declaration_step (tree.PatternDefinition at pattern body) = record {
-  definitions = record { at = at; binds = binds_of pattern; function = false } ∷ [];
+  definitions = defined_of at [] (binds_of pattern) false ∷ [];
   steps = step.Uses (constructors_of pattern) ∷ [] ++ body.steps;
 }
 declaration_step (tree.PortDefinition at name body) = record {
-  definitions = record { at = at; binds = name ∷ []; function = body.lambda } ∷ [];
+  definitions = defined_of at name.name (name ∷ []) body.lambda ∷ [];
   steps = body.steps;
 }
 declaration_step _ = record { definitions = []; steps = [] }

@@ -67,12 +67,14 @@ fn push_named(
     out: &mut Items<Defined>,
 ) -> Result<(), NoMemory>
     ensures { OnOk result (out.new ≡ out.old
-        ++ record { at = at; binds = spot_of place name.now ∷ []; function = function } ∷ []) }
+        ++ spec.defined_of at name.now (spot_of place name.now ∷ []) function ∷ []) }
 {
     let mut binds = Items::new(alloc);
     push_spot(alloc, place, name, &mut binds)?;
+    let name = name.copy(alloc)?;
     out.push(Defined {
         at,
+        name,
         binds,
         function,
     })?;
@@ -87,12 +89,14 @@ fn push_of_pattern(
     out: &mut Items<Defined>,
 ) -> Result<(), NoMemory>
     ensures { OnOk result (out.new ≡ out.old
-        ++ record { at = at; binds = binds_of pattern.now; function = false } ∷ []) }
+        ++ spec.defined_of at [] (binds_of pattern.now) false ∷ []) }
 {
     let mut binds = Items::new(alloc);
     push_binds(alloc, pattern, &mut binds)?;
+    let name = Name::from_vec(Vec::new(alloc));
     out.push(Defined {
         at,
+        name,
         binds,
         function: false,
     })?;

@@ -1,4 +1,4 @@
-use elm_base::{At, Spot};
+use elm_base::{At, Name, Spot};
 use sqlite_items::Items;
 
 /// What happens to names at one place, when a tree is read from left to right.
@@ -32,6 +32,8 @@ pub enum Step {
 #[derive(Drop)]
 pub struct Defined {
     pub at: At,
+    /// Its name, which is empty where a pattern is defined.
+    pub name: Name,
     /// What it binds: its own name, or the names of its pattern.
     pub binds: Items<Spot>,
     /// Whether it has a parameter or its right side is a lambda, brackets round it aside.
