@@ -1,0 +1,7 @@
+//! The blocks of a module: which of their definitions refer to which.
+#![tactic(auto)]
+
+mod marks;
+mod refers;
+
+pub use marks::references;

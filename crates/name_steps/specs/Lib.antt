@@ -1,0 +1,2 @@
+pub mod PatternNames
+pub mod Steps

@@ -1,0 +1,5 @@
+//! Tests of names and groups.
+#![tactic(auto)]
+
+#[cfg(test)]
+mod blocks;
