@@ -1,8 +1,7 @@
 #!/usr/bin/env python3
 """Times the built programs on inputs of growing size: the best of several runs counts.
 
-usage: bench/bench.py NAME..    NAME: lexer, parser, stack, modules, types, arena, lines, reactor
-usage: bench/bench.py NAME..    NAME: lexer, parser, stack, types, arena, prims, lines, reactor
+usage: bench/bench.py NAME..    NAME: lexer, parser, stack, modules, types, arena, prims, lines, reactor
 
 The programs are those that `rt run` leaves in crates/NAME/out. Each row has the input, the best time and the greatest
 memory of a run. Figures of a machine that is busy with other work are worth little.
