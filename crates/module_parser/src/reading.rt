@@ -15,9 +15,8 @@ ghost use Rattle.module_grammar.specs.ModuleReader as spec;
 ghost use Rattle.module_grammar.specs.ModuleReader.{Says, SaysOf};
 ghost use Rattle.module_parser.specs.Saying.{Faulted, Passes, GivesNext, ImportsNext};
 
-use crate::chunk::{declaration_line, header_line, import_line};
-use crate::names::own_name;
 use block_sizes::{MOST_DEFINITIONS, defined_at, large_declaration, left_behind};
+use declaration_parser::{declaration_line, header_line, import_line, own_name};
 use elm_base::{At, Declaration, Exposing, FaultKind, Halt, Import, Module, Name, NoMemory, Token};
 use grammar::{Cursor, NoTree, Terminal, paired};
 use layout_lexer::TextFault;
