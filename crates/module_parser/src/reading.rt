@@ -15,9 +15,8 @@ ghost use Rattle.module_grammar.specs.ModuleReader as spec;
 ghost use Rattle.module_grammar.specs.ModuleReader.{Says, SaysOf};
 ghost use Rattle.module_parser.specs.Saying.{Faulted, Passes, GivesNext, ImportsNext};
 
-use crate::chunk::{declaration_line, header_line, import_line};
-use crate::names::own_name;
 use block_sizes::{MOST_DEFINITIONS, defined_at, large_declaration, left_behind};
+use declaration_parser::{declaration_line, header_line, import_line, own_name};
 use elm_base::{At, Declaration, Exposing, FaultKind, Halt, Import, Module, Name, NoMemory, Token};
 use grammar::{Cursor, NoTree, Terminal, paired};
 use layout_lexer::TextFault;
@@ -69,7 +68,8 @@ fn next_chunk<'a>(tokens: &mut Cursor<'a>) -> Cursor<'a>
 
 /// The chunk as a header.
 fn header_of(alloc: Global, chunk: &mut Cursor<'_>) -> Result<Header, Halt<TextFault>>
-    ensures { Says (spec.or_fault chunk.old kind.BadHeader (line_parser header_parser chunk.old)) result }
+    ensures { Says (spec.or_fault chunk.old kind.BadHeader
+        (line_parser header_parser chunk.old)) result }
 {
     let line = line_of(chunk)?;
     let read = header_line(alloc, chunk);
@@ -78,7 +78,8 @@ fn header_of(alloc: Global, chunk: &mut Cursor<'_>) -> Result<Header, Halt<TextF
 
 /// The chunk as an import.
 fn import_of(alloc: Global, chunk: &mut Cursor<'_>) -> Result<Import, Halt<TextFault>>
-    ensures { Says (spec.or_fault chunk.old kind.BadHeader (line_parser import_parser chunk.old)) result }
+    ensures { Says (spec.or_fault chunk.old kind.BadHeader
+        (line_parser import_parser chunk.old)) result }
 {
     let line = line_of(chunk)?;
     let read = import_line(alloc, chunk);
@@ -91,7 +92,8 @@ fn declaration_of(
     depth: usize,
     chunk: &mut Cursor<'_>,
 ) -> Result<Declaration, Halt<TextFault>>
-    ensures { Says (spec.or_fault chunk.old kind.BadDeclaration (spec.declaration_line depth chunk.old)) result }
+    ensures { Says (spec.or_fault chunk.old kind.BadDeclaration
+        (spec.declaration_line depth chunk.old)) result }
 {
     let line = line_of(chunk)?;
     let read = declaration_line(alloc, depth, chunk);
@@ -154,7 +156,8 @@ fn is_defined(name: &Name, found: &Name, tokens: &Cursor<'_>) -> bool
 
 /// Whether the next chunk begins with the name, and is no annotation.
 fn begins_definition(alloc: Global, name: &Name, behind: &Cursor<'_>) -> Result<bool, NoMemory>
-    ensures { IfOk result (λ begins. begins ≡ modules.begins_definition name.now (chunks behind.now)) }
+    ensures { IfOk result (λ begins.
+        begins ≡ modules.begins_definition name.now (chunks behind.now)) }
 {
     if behind.is_empty() {
         return Ok(false);
@@ -194,7 +197,8 @@ fn stands(
     tree: &Declaration,
     behind: &Cursor<'_>,
 ) -> Result<bool, NoMemory>
-    ensures { IfOk result (λ stands. stands ≡ modules.stands before.now (chunks behind.now) tree.now) }
+    ensures { IfOk result (λ stands.
+        stands ≡ modules.stands before.now (chunks behind.now) tree.now) }
 {
     match tree {
         Declaration::Annotation { name, .. } => begins_definition(alloc, name, behind),
@@ -230,7 +234,8 @@ fn judged(
     behind: &Cursor<'_>,
 ) -> Result<usize, Halt<TextFault>>
     requires { left + modules.definitions before.now ≡ most_definitions }
-    ensures { Passes (spec.judged before.now line (chunks behind.now) tree.now) left tree.now result }
+    ensures { Passes (spec.judged before.now line (chunks behind.now) tree.now)
+        left tree.now result }
 {
     if !stands(alloc, before, tree, behind)? {
         let kind = FaultKind::BadDeclaration;
@@ -255,7 +260,8 @@ fn next_declaration(
 ) -> Result<(Declaration, usize), Halt<TextFault>>
     requires unread { is_done tokens.old ≡ false }
     requires room { left + modules.definitions before.now ≡ most_definitions }
-    ensures { GivesNext (spec.declared depth before.now) left (chunks tokens.old) result (chunks tokens.new) }
+    ensures { GivesNext (spec.declared depth before.now) left (chunks tokens.old)
+        result (chunks tokens.new) }
 {
     let mut chunk = next_chunk(tokens);
     let line = line_of(&chunk)?;
@@ -318,7 +324,8 @@ pub fn module(alloc: Global, tokens: &[Token<'_>]) -> Result<Module, Halt<TextFa
     ensures refused { IfErr result (λ cause. (fault : TextFault) → cause ≡ halt.Because fault
         → FirstFault (map lexeme tokens.now) fault) }
     ensures faulty { (fault : TextFault) → FirstFault (map lexeme tokens.now) fault
-        → MatchResult result (λ found. ⊥) (λ cause. cause ≢ halt.NoMemory → cause ≡ halt.Because fault) }
+        → MatchResult result (λ found. ⊥)
+        (λ cause. cause ≢ halt.NoMemory → cause ≡ halt.Because fault) }
 {
     read(alloc, DEPTH, tokens)
 }

@@ -1,5 +1,5 @@
 use crate::show::written;
-use module_grammar::{one_declaration, one_module, one_outcome};
+use module_parser::{annotations_lead, one_declaration, one_module, one_outcome};
 use std::test::Fail;
 
 /// Headers, and refusals beside them.
@@ -160,6 +160,7 @@ fn modules_have_their_trees_or_their_first_fault(rt: HostRuntime) -> Result<(), 
             assert_eq!(rt; found.as_str(), *wanted, "{text}");
         }
     }
+    annotations_lead();
     one_declaration();
     one_module();
     one_outcome();

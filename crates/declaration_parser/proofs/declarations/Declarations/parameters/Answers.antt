@@ -1,7 +1,7 @@
 use Rattle.std.proofs.Common.{rules}
 use Rattle.expr_grammar.specs.ExprReader as m
 use Rattle.module_grammar.proofs.DeclarationReadings.{parameter_takes}
-use Rattle.module_parser.proofs.declarations.Declarations.parameters.Goals as goal
+use Rattle.declaration_parser.proofs.declarations.Declarations.parameters.Goals as goal
 
 pub many-requires : goal.many-requires
 many-requires c =

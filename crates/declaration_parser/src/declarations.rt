@@ -123,7 +123,8 @@ impl Declarations {
         symbol: Terminal,
         tokens: &mut Cursor<'_>,
     ) -> Result<TypeTree, Halt<NoTree>>
-        ensures { Reads ((reader.◌▷◌ (reader.mark symbol) (types.type_at self.now.depth)) tokens.old)
+        ensures { Reads
+            ((reader.◌▷◌ (reader.mark symbol) (types.type_at self.now.depth)) tokens.old)
             result tokens.new }
     {
         tokens.expect(symbol)?;
@@ -131,7 +132,8 @@ impl Declarations {
     }
 
     fn body(&self, tokens: &mut Cursor<'_>) -> Result<Expr, Halt<NoTree>>
-        ensures { Reads ((reader.◌▷◌ (reader.mark k.Equals) (exprs.tree_at false self.now.depth)) tokens.old)
+        ensures { Reads
+            ((reader.◌▷◌ (reader.mark k.Equals) (exprs.tree_at false self.now.depth)) tokens.old)
             result tokens.new }
     {
         tokens.expect(Terminal::Equals)?;
@@ -186,7 +188,8 @@ impl Declarations {
 
     #[tactic(auto, unfolding(module_grammar::specs::DeclarationReader::union))]
     fn union(&self, at: At, tokens: &mut Cursor<'_>) -> Result<Declaration, Halt<NoTree>>
-        ensures { Reads (placed at (spec.union (below self.now.depth)) tokens.old) result tokens.new }
+        ensures { Reads (placed at (spec.union (below self.now.depth)) tokens.old)
+            result tokens.new }
     {
         let name = upper_spot(self.alloc, tokens)?;
         let parameters = variables(self.alloc, tokens)?;
@@ -202,7 +205,8 @@ impl Declarations {
 
     #[tactic(auto, unfolding(module_grammar::specs::DeclarationReader::alias))]
     fn alias(&self, at: At, tokens: &mut Cursor<'_>) -> Result<Declaration, Halt<NoTree>>
-        ensures { Reads (placed at (spec.alias (below self.now.depth)) tokens.old) result tokens.new }
+        ensures { Reads (placed at (spec.alias (below self.now.depth)) tokens.old)
+            result tokens.new }
     {
         tokens.expect(Terminal::Alias)?;
         let name = upper_spot(self.alloc, tokens)?;

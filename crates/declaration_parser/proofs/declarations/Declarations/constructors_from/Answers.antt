@@ -3,7 +3,7 @@ use Rattle.std.proofs.lemmas.Grind.{common_steps}
 use Rattle.expr_grammar.specs.ExprReader.{below}
 use Rattle.module_grammar.specs.DeclarationReader as m
 use Rattle.module_grammar.proofs.DeclarationReadings.{next_constructor_takes}
-use Rattle.module_parser.proofs.declarations.Declarations.constructors_from.Goals as goal
+use Rattle.declaration_parser.proofs.declarations.Declarations.constructors_from.Goals as goal
 
 pub many_more-requires : goal.many_more-requires
 many_more-requires c =

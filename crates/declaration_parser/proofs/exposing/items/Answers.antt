@@ -1,7 +1,7 @@
 use Rattle.std.proofs.Common.{rules}
 use Rattle.module_grammar.specs.DeclarationReader as m
 use Rattle.module_grammar.proofs.DeclarationReadings.{item_takes}
-use Rattle.module_parser.proofs.exposing.items.Goals as goal
+use Rattle.declaration_parser.proofs.exposing.items.Goals as goal
 
 pub separated-requires : goal.separated-requires
 separated-requires c = (m.item, record { callable = λ old. search rules; reads = λ old new r post. search rules; takes = item_takes })
