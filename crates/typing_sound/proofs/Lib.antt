@@ -12,4 +12,5 @@ pub mod RecordValues
 pub mod Sound
 pub mod Erased
 pub mod Used
+pub mod TopsUsed
 pub mod Laws

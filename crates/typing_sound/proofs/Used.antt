@@ -25,7 +25,7 @@ or_right : (a b : Bool) → b ≡ true → (a || b) ≡ true
 or_right true b e = refl
 or_right false b e = e
 
-among_left : (y : ℕ) (xs ys : List ℕ) → is_among y xs ≡ true → is_among y (xs ++ ys) ≡ true
+pub among_left : (y : ℕ) (xs ys : List ℕ) → is_among y xs ≡ true → is_among y (xs ++ ys) ≡ true
 among_left y [] ys e = absurd cc
 among_left y (x ∷ xs) ys e = by_first (x == y) e (among_left y xs ys)
   where
@@ -33,7 +33,7 @@ among_left y (x ∷ xs) ys e = by_first (x == y) e (among_left y xs ys)
     by_first true h f = refl
     by_first false h f = f h
 
-among_right : (y : ℕ) (xs ys : List ℕ) → is_among y ys ≡ true → is_among y (xs ++ ys) ≡ true
+pub among_right : (y : ℕ) (xs ys : List ℕ) → is_among y ys ≡ true → is_among y (xs ++ ys) ≡ true
 among_right y [] ys e = e
 among_right y (x ∷ xs) ys e = or_right (x == y) (is_among y (xs ++ ys)) (among_right y xs ys e)
 
@@ -97,7 +97,7 @@ hides_given : (xs : List ℕ) (i : ℕ) (G H : Typings) (s r : Surroundings) →
 hides_given [] i G H s r f = hides_nothing s r
 hides_given (x ∷ xs) i G H s r f = hides_more x xs (GivenBy G i) (GivenBy H i) s r _ _ (given_more i G H f) (hides_given xs (suc i) G H _ _ f)
 
-itself : (y : ℕ) → is_among y (y ∷ []) ≡ true
+pub itself : (y : ℕ) → is_among y (y ∷ []) ≡ true
 itself y = or_left (y == y) false (eq-eqb y y refl)
 
 module _ (w : World) where

@@ -1,3 +1,4 @@
 pub mod Safe
 pub mod SafeEndings
 pub mod Settings
+pub mod TopValues
