@@ -13,4 +13,5 @@ pub mod Sound
 pub mod Erased
 pub mod Used
 pub mod TopsUsed
+pub mod TopsAdded
 pub mod Laws

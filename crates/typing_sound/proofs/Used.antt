@@ -43,9 +43,11 @@ among_without y ns (x ∷ xs) e h = by_first (x == y) refl e (among_without y ns
   where
     hidden_not : (b : Bool) → is_among x ns ≡ b → is_among x ns ≡ false → is_among y (if b then without ns xs else x ∷ without ns xs) ≡ true → is_among y (if is_among x ns then without ns xs else x ∷ without ns xs) ≡ true
     hidden_not b p q g = subst (λ z. is_among y (if z then without ns xs else x ∷ without ns xs) ≡ true) (sym p) g
+
     kept : (b : Bool) → is_among y (without ns xs) ≡ true → is_among y (if b then without ns xs else x ∷ without ns xs) ≡ true
     kept true g = g
     kept false g = or_right (x == y) (is_among y (without ns xs)) g
+
     by_first : (b : Bool) → (x == y) ≡ b → (b || is_among y xs) ≡ true → (is_among y xs ≡ true → is_among y ns ≡ false → is_among y (without ns xs) ≡ true) → is_among y (if is_among x ns then without ns xs else x ∷ without ns xs) ≡ true
     by_first true p g f =
         let d = eqb-true x y p in

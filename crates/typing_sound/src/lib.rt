@@ -6,6 +6,7 @@ mod erasing_laws;
 mod native_laws;
 mod soundness_laws;
 mod surroundings_laws;
+mod top_laws;
 
 pub use erasing_laws::erasing_keeps_types;
 pub use native_laws::natives_are_safe;
@@ -16,4 +17,7 @@ pub use soundness_laws::{
 };
 pub use surroundings_laws::{
     more_surroundings_type_no_less, only_used_names_matter, substitution_keeps_types,
+};
+pub use top_laws::{
+    a_value_joins_the_top_values, functions_join_the_top_values, the_first_group_needs_no_values,
 };
