@@ -14,4 +14,5 @@ pub mod Erased
 pub mod Used
 pub mod TopsUsed
 pub mod TopsAdded
+pub mod Rewritten
 pub mod Laws

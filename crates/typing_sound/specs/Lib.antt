@@ -2,3 +2,4 @@ pub mod Safe
 pub mod SafeEndings
 pub mod Settings
 pub mod TopValues
+pub mod Rewritings
