@@ -15,9 +15,14 @@ pub fn places_are_ordered()
 
 /// In `f b a = (,) (.x b) a` the parameters are 0 and 1, the tuple maker's binders 2 and 3, and the field function's 4.
 pub fn binders_are_numbered_by_place()
-    ensures first { (numbered names (all (one (at 5) ∷ one (at 3) ∷ further (at 14) 1 ∷ further (at 9) 2 ∷ []))).number (at 3) ≡ 0 }
-    ensures second { (numbered names (all (one (at 5) ∷ one (at 3) ∷ further (at 14) 1 ∷ further (at 9) 2 ∷ []))).number (at 5) ≡ 1 }
-    ensures maker { (numbered names (all (one (at 5) ∷ one (at 3) ∷ further (at 14) 1 ∷ further (at 9) 2 ∷ []))).own (at 9) 0 ≡ 2 }
-    ensures more { (numbered names (all (one (at 5) ∷ one (at 3) ∷ further (at 14) 1 ∷ further (at 9) 2 ∷ []))).own (at 9) 1 ≡ 3 }
-    ensures field { (numbered names (all (one (at 5) ∷ one (at 3) ∷ further (at 14) 1 ∷ further (at 9) 2 ∷ []))).own (at 14) 0 ≡ 4 }
+    ensures first { (numbered names (all (one (at 5) ∷ one (at 3) ∷ further (at 14) 1 ∷ further
+        (at 9) 2 ∷ []))).number (at 3) ≡ 0 }
+    ensures second { (numbered names (all (one (at 5) ∷ one (at 3) ∷ further (at 14) 1 ∷ further
+        (at 9) 2 ∷ []))).number (at 5) ≡ 1 }
+    ensures maker { (numbered names (all (one (at 5) ∷ one (at 3) ∷ further (at 14) 1 ∷ further
+        (at 9) 2 ∷ []))).own (at 9) 0 ≡ 2 }
+    ensures more { (numbered names (all (one (at 5) ∷ one (at 3) ∷ further (at 14) 1 ∷ further
+        (at 9) 2 ∷ []))).own (at 9) 1 ≡ 3 }
+    ensures field { (numbered names (all (one (at 5) ∷ one (at 3) ∷ further (at 14) 1 ∷ further
+        (at 9) 2 ∷ []))).own (at 14) 0 ≡ 4 }
 {}

@@ -20,7 +20,8 @@ pub fn the_first_group_needs_no_values()
 
 /// A definition that doesn't refer to itself gives a value with all types of its name, behind the values before it.
 pub fn a_value_joins_the_top_values()
-    ensures { (p : Setting) (d : Definition) (tops : List Value) (stage : Stage) (fuel : ℕ) (v : Value) (s : State)
+    ensures { (p : Setting) (d : Definition) (tops : List Value) (stage : Stage) (fuel : ℕ)
+        (v : Value) (s : State)
         (types : List Ground) →
         GroupsAreBelow (length tops) p.groups → d.top ≡ length tops →
         is_among d.top (tops_in d.body) ≡ false →
