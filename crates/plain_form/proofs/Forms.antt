@@ -30,7 +30,7 @@ use Rattle.typing_rules.specs.Core.{Core, Local, Literal, Native, Lambda, Call, 
 use Rattle.plain_form.specs.Naming.{Naming}
 use Rattle.plain_form.specs.PlainForm.{cores, patterns, fields, guards, branches, call, lambdas, no_core, listed, made_of, label_of, pattern_step, plain_pattern, parameters, binders, use_of, operation, with_fields, truth, falsehood, Defined, Annotated, Named, Apart, groups_before, expr_step, declaration_step, plain, plain_definition, plain_set}
 
-map_twice : {A B C : Type 0} (f : B → C) (g : A → B) (xs : List A) → map f (map g xs) ≡ map (λ x. f (g x)) xs
+pub map_twice : {A B C : Type 0} (f : B → C) (g : A → B) (xs : List A) → map f (map g xs) ≡ map (λ x. f (g x)) xs
 map_twice f g [] = refl
 map_twice f g (x ∷ xs) = ap (λ ys. f (g x) ∷ ys) (map_twice f g xs)
 

@@ -1,3 +1,4 @@
 pub mod Naming
 pub mod PlainForm
 pub mod NamedExamples
+pub mod Numbering

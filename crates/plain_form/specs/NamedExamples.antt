@@ -9,6 +9,9 @@ use Rattle.typing_rules.specs.WrittenTypes.{Written}
 use Rattle.typing_rules.specs.Library.{from, int_}
 use Rattle.plain_form.specs.Naming.{Naming, Maker}
 
+abbrev pub place : ℕ → ℕ → At
+place line column = record { line = line; column = column }
+
 -- a place of line 1
 abbrev pub at : ℕ → At
 at column = record { line = 1; column = column }

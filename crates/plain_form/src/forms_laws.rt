@@ -32,13 +32,15 @@ pub fn other_forms_keep_their_parts()
         ≡ ListOf (cores (map (plain n) xs)) }
     ensures range { (n : Naming) (at : At) (x y : Expr) → plain n (e.Range at x y)
         ≡ Range (plain n x) (plain n y) }
-    ensures access { (n : Naming) (at : At) (x : Expr) (label : List ℕ) → plain n (e.Access at x label)
+    ensures access { (n : Naming) (at : At) (x : Expr) (label : List ℕ) → plain n
+        (e.Access at x label)
         ≡ Field (plain n x) label }
     ensures choice { (n : Naming) (at : At) (x y z : Expr) → plain n (e.If at x y z)
         ≡ If (plain n x) (plain n y) (plain n z) }
     ensures guards { (n : Naming) (at : At) (bs : List (Expr × Expr)) → plain n (e.Guards at bs)
         ≡ Guards (guards (map (λ b. (plain n b.0, plain n b.1)) bs)) }
-    ensures branches { (n : Naming) (at : At) (x : Expr) (bs : List (Pattern × Expr)) → plain n (e.Case at x bs)
+    ensures branches { (n : Naming) (at : At) (x : Expr) (bs : List (Pattern × Expr)) → plain n
+        (e.Case at x bs)
         ≡ Case (plain n x) (branches (map (λ b. (plain_pattern n b.0, plain n b.1)) bs)) }
 {}
 
@@ -46,20 +48,26 @@ pub fn other_forms_keep_their_parts()
 pub fn records_keep_their_fields()
     ensures fields { (n : Naming) (at : At) (sets : List Set) → plain n (e.Fields at sets)
         ≡ Fields (fields (map (plain_set n) sets)) }
-    ensures extend { (n : Naming) (at : At) (x : Expr) (sets : List Set) → plain n (e.Extend at x sets)
+    ensures extend { (n : Naming) (at : At) (x : Expr) (sets : List Set) → plain n
+        (e.Extend at x sets)
         ≡ Extend (plain n x) (fields (map (plain_set n) sets)) }
-    ensures update { (n : Naming) (at : At) (x : Expr) (sets : List Set) → plain n (e.Update at x sets)
+    ensures update { (n : Naming) (at : At) (x : Expr) (sets : List Set) → plain n
+        (e.Update at x sets)
         ≡ Update (plain n x) (fields (map (plain_set n) sets)) }
-    ensures remove { (n : Naming) (at : At) (x : Expr) (label : List ℕ) (sets : List Set) → plain n (e.Remove at x label sets)
+    ensures remove { (n : Naming) (at : At) (x : Expr) (label : List ℕ) (sets : List Set) →
+        plain n (e.Remove at x label sets)
         ≡ with_fields (Remove (plain n x) label) (map (plain_set n) sets) }
 {}
 
 /// A `let` is its groups in order. A definition has its annotation, if there is one.
 pub fn blocks_are_their_groups_in_order()
-    ensures block { (n : Naming) (at : At) (ds : List Declaration) (x : Expr) → plain n (e.Let at ds x)
+    ensures block { (n : Naming) (at : At) (ds : List Declaration) (x : Expr) → plain n
+        (e.Let at ds x)
         ≡ groups_before n (n.groups at) (map (plain_definition n) ds) (plain n x) }
-    ensures annotation { (n : Naming) (at : At) (name : List ℕ) (written : TypeTree) → plain_definition n (d.Annotation at name written)
+    ensures annotation { (n : Naming) (at : At) (name : List ℕ) (written : TypeTree) →
+        plain_definition n (d.Annotation at name written)
         ≡ Annotated name (n.written written) }
-    ensures pattern_definition { (n : Naming) (at : At) (p : Pattern) (x : Expr) → plain_definition n (d.PatternDefinition at p x)
+    ensures pattern_definition { (n : Naming) (at : At) (p : Pattern) (x : Expr) →
+        plain_definition n (d.PatternDefinition at p x)
         ≡ Apart at (plain_pattern n p) (plain n x) }
 {}

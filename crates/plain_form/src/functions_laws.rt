@@ -13,12 +13,15 @@ ghost use Rattle.plain_form.specs.PlainForm.{lambdas, plain_pattern, parameters,
 
 /// Several parameters are nested lambdas. Field functions and tuple makers are lambdas with binders of their own.
 pub fn functions_have_one_parameter_each()
-    ensures lambda { (n : Naming) (at : At) (ps : List Pattern) (x : Expr) → plain n (e.Lambda at ps x)
+    ensures lambda { (n : Naming) (at : At) (ps : List Pattern) (x : Expr) → plain n
+        (e.Lambda at ps x)
         ≡ lambdas (map (plain_pattern n) ps) (plain n x) }
-    ensures field_function { (n : Naming) (at : At) (label : List ℕ) → plain n (e.FieldFunction at label)
+    ensures field_function { (n : Naming) (at : At) (label : List ℕ) → plain n
+        (e.FieldFunction at label)
         ≡ Lambda (CorePattern.Local (n.own at 0)) (Field (Local (n.own at 0)) label) }
     ensures tuple_maker { (n : Naming) (at : At) (parts : ℕ) → plain n (e.TupleMaker at parts)
         ≡ lambdas (binders n at 0 parts) (Tuple (parameters n at 0 parts)) }
-    ensures definition { (n : Naming) (at : At) (name : List ℕ) (ps : List Pattern) (x : Expr) → plain_definition n (d.Definition at name ps x)
+    ensures definition { (n : Naming) (at : At) (name : List ℕ) (ps : List Pattern) (x : Expr) →
+        plain_definition n (d.Definition at name ps x)
         ≡ Named at name (lambdas (map (plain_pattern n) ps) (plain n x)) }
 {}

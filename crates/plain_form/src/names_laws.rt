@@ -13,6 +13,7 @@ pub fn names_stand_for_their_things()
         ≡ use_of n at (n.thing at) }
     ensures constructor { (n : Naming) (at : At) (name : List ℕ) → plain n (e.Constructor at name)
         ≡ use_of n at (n.thing at) }
-    ensures operator_name { (n : Naming) (at : At) (name : List ℕ) → plain n (e.OperatorName at name)
+    ensures operator_name { (n : Naming) (at : At) (name : List ℕ) → plain n
+        (e.OperatorName at name)
         ≡ use_of n at (n.thing at) }
 {}

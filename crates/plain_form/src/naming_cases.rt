@@ -37,11 +37,14 @@ pub fn uses_are_what_they_stand_for()
         (Lambda (CorePattern.Local 100)
         (Lambda (CorePattern.Local 101)
         (Fields
-        (AndCoreField (codes "x") (Local 100) (AndCoreField (codes "y") (Local 101) NoCoreFields))))) }
+        (AndCoreField (codes "x") (Local 100) (AndCoreField (codes "y")
+        (Local 101) NoCoreFields))))) }
     ensures nothing { use_of names (at 11) (names.thing (at 11)) ≡ no_core }
     ensures pattern { made_of names (names.thing (at 9)) (CorePattern.Local 3 ∷ [])
-        ≡ CorePattern.Made (Some (codes "Maybe.Maybe")) (codes "Just") (patterns (CorePattern.Local 3 ∷ [])) }
-    ensures no_pattern { made_of names (names.thing (at 10)) [] ≡ CorePattern.Made (Some []) [] (patterns []) }
+        ≡ CorePattern.Made (Some (codes "Maybe.Maybe")) (codes "Just") (patterns
+        (CorePattern.Local 3 ∷ [])) }
+    ensures no_pattern { made_of names (names.thing (at 10)) [] ≡ CorePattern.Made (Some []) []
+        (patterns []) }
 {}
 
 /// Arguments and parameters stand one behind the other, and a list pattern ends in the empty list.
@@ -50,7 +53,8 @@ pub fn lists_are_nested()
     ensures lambda { lambdas (CorePattern.Local 1 ∷ CorePattern.Local 2 ∷ []) (Local 1)
         ≡ Lambda (CorePattern.Local 1) (Lambda (CorePattern.Local 2) (Local 1)) }
     ensures list { listed (CorePattern.Local 1 ∷ CorePattern.Local 2 ∷ [])
-        ≡ CorePattern.Cons (CorePattern.Local 1) (CorePattern.Cons (CorePattern.Local 2) CorePattern.Nil) }
+        ≡ CorePattern.Cons (CorePattern.Local 1) (CorePattern.Cons
+        (CorePattern.Local 2) CorePattern.Nil) }
 {}
 
 /// A `let` is its groups in order: a value, a pattern's value, or functions, each as it is annotated.

@@ -24,18 +24,23 @@ pub fn patterns_stand_form_by_form()
         ≡ CorePattern.Literal (literal.Text value) }
     ensures unit { (n : Naming) (at : At) → plain_pattern n (p.Unit at)
         ≡ CorePattern.Literal literal.Unit }
-    ensures made { (n : Naming) (at : At) (constructor : List ℕ) (ps : List Pattern) → plain_pattern n (p.Made at constructor ps)
+    ensures made { (n : Naming) (at : At) (constructor : List ℕ) (ps : List Pattern) →
+        plain_pattern n (p.Made at constructor ps)
         ≡ made_of n (n.thing at) (map (plain_pattern n) ps) }
-    ensures cons { (n : Naming) (at : At) (head tail : Pattern) → plain_pattern n (p.Cons at head tail)
+    ensures cons { (n : Naming) (at : At) (head tail : Pattern) → plain_pattern n
+        (p.Cons at head tail)
         ≡ CorePattern.Cons (plain_pattern n head) (plain_pattern n tail) }
     ensures list { (n : Naming) (at : At) (ps : List Pattern) → plain_pattern n (p.List at ps)
         ≡ listed (map (plain_pattern n) ps) }
     ensures tuple { (n : Naming) (at : At) (ps : List Pattern) → plain_pattern n (p.Tuple at ps)
         ≡ CorePattern.Tuple (patterns (map (plain_pattern n) ps)) }
-    ensures labels { (n : Naming) (at : At) (labels : List Spot) → plain_pattern n (p.Fields at labels)
+    ensures labels { (n : Naming) (at : At) (labels : List Spot) → plain_pattern n
+        (p.Fields at labels)
         ≡ CorePattern.Fields (map (label_of n) labels) }
-    ensures brackets { (n : Naming) (at : At) (inner : Pattern) → plain_pattern n (p.Brackets at inner)
+    ensures brackets { (n : Naming) (at : At) (inner : Pattern) → plain_pattern n
+        (p.Brackets at inner)
         ≡ plain_pattern n inner }
-    ensures named { (n : Naming) (at : At) (inner : Pattern) (name : Spot) → plain_pattern n (p.Named at inner name)
+    ensures named { (n : Naming) (at : At) (inner : Pattern) (name : Spot) → plain_pattern n
+        (p.Named at inner name)
         ≡ CorePattern.Named (plain_pattern n inner) (n.number name.at) }
 {}

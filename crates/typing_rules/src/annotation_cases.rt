@@ -18,9 +18,11 @@ pub fn annotations_are_kept()
 
 /// A variable has exactly the flags of its name, and one before a bar stands for a record.
 pub fn variables_have_their_flags()
-    ensures comparable { Accepted (from (var "comparable" ∷ var "comparable" ∷ []) bool_) smaller }
+    ensures comparable { Accepted (from (var "comparable" ∷ var "comparable" ∷
+        []) bool_) smaller }
     ensures plain { Accepted (from (var "a" ∷ var "a" ∷ []) bool_) smaller → ⊥ }
-    ensures appendable { Accepted (from (var "appendable" ∷ var "appendable" ∷ []) bool_) smaller → ⊥ }
+    ensures appendable { Accepted (from (var "appendable" ∷ var "appendable" ∷
+        []) bool_) smaller → ⊥ }
     ensures record { Accepted (from (with_x ∷ []) int_) get_x }
     ensures variable { Accepted (from (var "r" ∷ []) int_) get_x → ⊥ }
 {}

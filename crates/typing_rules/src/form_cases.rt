@@ -18,8 +18,10 @@ pub fn branches_have_one_type()
     ensures guarded { Has (Guards (guarded ((truth, number 1) ∷ (truth, number 2) ∷ []))) int }
     ensures guard { HasNone (Guards (guarded ((truth, number 1) ∷ (text "a", number 2) ∷ []))) }
     ensures last { HasNone (Guards (guarded ((truth, number 1) ∷ (truth, text "a") ∷ []))) }
-    ensures cases { Has (Case (number 1) (branches ((exactly_one, text "a") ∷ (CorePattern.Anything, text "b") ∷ []))) string }
-    ensures branch { HasNone (Case (number 1) (branches ((exactly_one, text "a") ∷ (CorePattern.Anything, number 2) ∷ []))) }
+    ensures cases { Has (Case (number 1) (branches ((exactly_one, text "a") ∷
+        (CorePattern.Anything, text "b") ∷ []))) string }
+    ensures branch { HasNone (Case (number 1) (branches ((exactly_one, text "a") ∷
+        (CorePattern.Anything, number 2) ∷ []))) }
     ensures pattern { HasNone (Case (text "a") (branches ((exactly_one, text "a") ∷ []))) }
 {}
 
@@ -47,7 +49,9 @@ pub fn names_and_calls_have_types()
 
 /// What is held to a written type has only its instances.
 pub fn makers_are_held_to_their_types()
-    ensures held { Has (Held (from (int_ ∷ []) int_) (lambda 0 (Local 0))) (Ground.Function int int) }
-    ensures narrow { Has (Held (from (int_ ∷ []) int_) (lambda 0 (Local 0))) (Ground.Function string string) → ⊥ }
+    ensures held { Has (Held (from (int_ ∷ []) int_) (lambda 0 (Local 0)))
+        (Ground.Function int int) }
+    ensures narrow { Has (Held (from (int_ ∷ []) int_) (lambda 0 (Local 0)))
+        (Ground.Function string string) → ⊥ }
     ensures wrong { HasNone (Held int_ (lambda 0 (Local 0))) }
 {}

@@ -11,7 +11,8 @@ pub fn the_newest_field_counts()
     ensures both { Has two_fields (record_of (("x", string) ∷ ("x", int) ∷ [])) }
     ensures read { Has (Field two_fields (codes "x")) string }
     ensures removed { Has (Field (Remove two_fields (codes "x")) (codes "x")) int }
-    ensures updated { Has (Update two_fields (sets (("x", text "b") ∷ []))) (record_of (("x", string) ∷ ("x", int) ∷ [])) }
+    ensures updated { Has (Update two_fields (sets (("x", text "b") ∷ []))) (record_of
+        (("x", string) ∷ ("x", int) ∷ [])) }
     ensures hidden { HasNone (Update two_fields (sets (("x", number 2) ∷ []))) }
     ensures missing { HasNone (Field two_fields (codes "y")) }
 {}

@@ -20,7 +20,8 @@ pub fn natives_have_types()
 /// Natives of order take what is comparable.
 pub fn an_order_is_of_comparable_types()
     ensures int { NativeGives LESS (functions (int ∷ int ∷ []) bool) }
-    ensures pair { NativeGives LESS (functions (tuple (int ∷ string ∷ []) ∷ tuple (int ∷ string ∷ []) ∷ []) bool) }
+    ensures pair { NativeGives LESS (functions (tuple (int ∷ string ∷ []) ∷ tuple (int ∷ string ∷
+        []) ∷ []) bool) }
     ensures function { NativeGives LESS
         (functions (Ground.Function int int ∷ Ground.Function int int ∷ []) bool) → ⊥ }
     ensures unit { NativeGives LESS (functions (tuple [] ∷ tuple [] ∷ []) bool) → ⊥ }
@@ -37,7 +38,8 @@ pub fn an_equality_is_of_any_type()
 
 /// Texts and lists can be joined.
 pub fn a_joining_is_of_appendable_types()
-    ensures list { NativeGives JOIN (functions (list_of bool ∷ list_of bool ∷ []) (list_of bool)) }
+    ensures list { NativeGives JOIN (functions (list_of bool ∷ list_of bool ∷ [])
+        (list_of bool)) }
     ensures text { NativeGives JOIN (functions (string ∷ string ∷ []) string) }
     ensures int { NativeGives JOIN (functions (int ∷ int ∷ []) int) → ⊥ }
 {}
@@ -45,11 +47,15 @@ pub fn a_joining_is_of_appendable_types()
 /// What a filter gives where it has no value yet is of the type that it gives.
 pub fn a_default_has_the_type_of_what_is_given()
     ensures same { NativeGives FILTER_MAP
-        (functions (Ground.Function int (maybe string) ∷ string ∷ signal_of int ∷ []) (signal_of string)) }
+        (functions (Ground.Function int (maybe string) ∷ string ∷ signal_of int ∷ [])
+        (signal_of string)) }
     ensures apart { NativeGives FILTER_MAP
-        (functions (Ground.Function int (maybe string) ∷ int ∷ signal_of int ∷ []) (signal_of string)) → ⊥ }
+        (functions (Ground.Function int (maybe string) ∷ int ∷ signal_of int ∷ [])
+        (signal_of string)) → ⊥ }
     ensures swapped { NativeGives FOLDP
-        (functions (functions (string ∷ int ∷ []) string ∷ string ∷ signal_of int ∷ []) (signal_of string)) → ⊥ }
+        (functions (functions (string ∷ int ∷ []) string ∷ string ∷ signal_of int ∷ [])
+        (signal_of string)) → ⊥ }
     ensures folded { NativeGives FOLDP
-        (functions (functions (int ∷ string ∷ []) string ∷ string ∷ signal_of int ∷ []) (signal_of string)) }
+        (functions (functions (int ∷ string ∷ []) string ∷ string ∷ signal_of int ∷ [])
+        (signal_of string)) }
 {}

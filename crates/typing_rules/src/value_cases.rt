@@ -19,11 +19,16 @@ pub fn values_have_types()
     ensures int { ValueHas here (value.int 3) int }
     ensures text { ValueHas here (value.text "a") int → ⊥ }
     ensures list { ValueHas here (value.list (value.int 3 ∷ [])) (list_of int) }
-    ensures mixed { ValueHas here (value.list (value.int 3 ∷ value.text "a" ∷ [])) (list_of int) → ⊥ }
-    ensures pair { ValueHas here (value.tuple (value.int 3 ∷ value.text "a" ∷ [])) (tuple (int ∷ string ∷ [])) }
-    ensures short { ValueHas here (value.tuple (value.int 3 ∷ [])) (tuple (int ∷ string ∷ [])) → ⊥ }
-    ensures record { ValueHas here (value.record_of (("x", value.int 3) ∷ [])) (record_of (("x", int) ∷ [])) }
-    ensures label { ValueHas here (value.record_of (("x", value.int 3) ∷ [])) (record_of (("y", int) ∷ [])) → ⊥ }
+    ensures mixed { ValueHas here (value.list (value.int 3 ∷ value.text "a" ∷ []))
+        (list_of int) → ⊥ }
+    ensures pair { ValueHas here (value.tuple (value.int 3 ∷ value.text "a" ∷ [])) (tuple (int ∷
+        string ∷ [])) }
+    ensures short { ValueHas here (value.tuple (value.int 3 ∷ [])) (tuple (int ∷ string ∷ [])) →
+        ⊥ }
+    ensures record { ValueHas here (value.record_of (("x", value.int 3) ∷ [])) (record_of
+        (("x", int) ∷ [])) }
+    ensures label { ValueHas here (value.record_of (("x", value.int 3) ∷ [])) (record_of
+        (("y", int) ∷ [])) → ⊥ }
     ensures cells { ValueHas here (Cells 0 0 []) element }
 {}
 
@@ -32,15 +37,21 @@ pub fn functions_have_types()
     ensures closure { ValueHas here identity (Ground.Function int int) }
     ensures other { ValueHas here identity (Ground.Function int string) → ⊥ }
     ensures lacking { ValueHas here (partial ADD (value.int 1 ∷ [])) (Ground.Function int int) }
-    ensures argument { ValueHas here (partial ADD (value.text "a" ∷ [])) (Ground.Function int int) → ⊥ }
+    ensures argument { ValueHas here (partial ADD (value.text "a" ∷ []))
+        (Ground.Function int int) → ⊥ }
     ensures complete { ValueHas here (partial ADD (value.int 1 ∷ value.int 2 ∷ [])) int → ⊥ }
 {}
 
 /// A signal has the type that its node's equation has as a call, by the nodes before it.
 pub fn signals_have_the_types_of_their_nodes()
-    ensures constant { ValueHas (at_equations (Equation.Constant (value.int 3) ∷ []) here) (Signal 0) (signal_of int) }
-    ensures other { ValueHas (at_equations (Equation.Constant (value.int 3) ∷ []) here) (Signal 0) (signal_of string) → ⊥ }
-    ensures missing { ValueHas (at_equations (Equation.Constant (value.int 3) ∷ []) here) (Signal 1) (signal_of int) → ⊥ }
-    ensures ordered { AreWellTyped (Equation.Constant (value.int 3) ∷ Equation.Map (partial NEGATE []) (0 ∷ []) ∷ []) here }
-    ensures early { AreWellTyped (Equation.Map (partial NEGATE []) (1 ∷ []) ∷ Equation.Constant (value.int 3) ∷ []) here → ⊥ }
+    ensures constant { ValueHas (at_equations (Equation.Constant (value.int 3) ∷ []) here)
+        (Signal 0) (signal_of int) }
+    ensures other { ValueHas (at_equations (Equation.Constant (value.int 3) ∷ []) here)
+        (Signal 0) (signal_of string) → ⊥ }
+    ensures missing { ValueHas (at_equations (Equation.Constant (value.int 3) ∷ []) here)
+        (Signal 1) (signal_of int) → ⊥ }
+    ensures ordered { AreWellTyped (Equation.Constant (value.int 3) ∷ Equation.Map
+        (partial NEGATE []) (0 ∷ []) ∷ []) here }
+    ensures early { AreWellTyped (Equation.Map (partial NEGATE []) (1 ∷ []) ∷ Equation.Constant
+        (value.int 3) ∷ []) here → ⊥ }
 {}

@@ -124,6 +124,7 @@ module _ (w : World) (l : HasLibrary w) where
     where
       g : ConstructorGives w.unions None name n t
       g = any_union (bytes_eq name (codes "::")) u name n t h.1
+
       by_number : (b : Bool) → (n == 0) ≡ b → TermHas w s (Done (if b then Made name NoValues else Applicable (Partial (callee.Constructor name n) NoValues))) t
       by_number true e = (h.0, made_has (bytes_eq name (codes "::")) name n t h.0 g (eqb-true n 0 e))
       by_number false e = lacking_has name n s t h.0 g (not_zero n e)

@@ -12,4 +12,7 @@ pub mod RecordValues
 pub mod Sound
 pub mod Erased
 pub mod Used
+pub mod TopsUsed
+pub mod TopsAdded
+pub mod Rewritten
 pub mod Laws

@@ -25,7 +25,7 @@ or_right : (a b : Bool) → b ≡ true → (a || b) ≡ true
 or_right true b e = refl
 or_right false b e = e
 
-among_left : (y : ℕ) (xs ys : List ℕ) → is_among y xs ≡ true → is_among y (xs ++ ys) ≡ true
+pub among_left : (y : ℕ) (xs ys : List ℕ) → is_among y xs ≡ true → is_among y (xs ++ ys) ≡ true
 among_left y [] ys e = absurd cc
 among_left y (x ∷ xs) ys e = by_first (x == y) e (among_left y xs ys)
   where
@@ -33,7 +33,7 @@ among_left y (x ∷ xs) ys e = by_first (x == y) e (among_left y xs ys)
     by_first true h f = refl
     by_first false h f = f h
 
-among_right : (y : ℕ) (xs ys : List ℕ) → is_among y ys ≡ true → is_among y (xs ++ ys) ≡ true
+pub among_right : (y : ℕ) (xs ys : List ℕ) → is_among y ys ≡ true → is_among y (xs ++ ys) ≡ true
 among_right y [] ys e = e
 among_right y (x ∷ xs) ys e = or_right (x == y) (is_among y (xs ++ ys)) (among_right y xs ys e)
 
@@ -43,9 +43,11 @@ among_without y ns (x ∷ xs) e h = by_first (x == y) refl e (among_without y ns
   where
     hidden_not : (b : Bool) → is_among x ns ≡ b → is_among x ns ≡ false → is_among y (if b then without ns xs else x ∷ without ns xs) ≡ true → is_among y (if is_among x ns then without ns xs else x ∷ without ns xs) ≡ true
     hidden_not b p q g = subst (λ z. is_among y (if z then without ns xs else x ∷ without ns xs) ≡ true) (sym p) g
+
     kept : (b : Bool) → is_among y (without ns xs) ≡ true → is_among y (if b then without ns xs else x ∷ without ns xs) ≡ true
     kept true g = g
     kept false g = or_right (x == y) (is_among y (without ns xs)) g
+
     by_first : (b : Bool) → (x == y) ≡ b → (b || is_among y xs) ≡ true → (is_among y xs ≡ true → is_among y ns ≡ false → is_among y (without ns xs) ≡ true) → is_among y (if is_among x ns then without ns xs else x ∷ without ns xs) ≡ true
     by_first true p g f =
         let d = eqb-true x y p in
@@ -97,7 +99,7 @@ hides_given : (xs : List ℕ) (i : ℕ) (G H : Typings) (s r : Surroundings) →
 hides_given [] i G H s r f = hides_nothing s r
 hides_given (x ∷ xs) i G H s r f = hides_more x xs (GivenBy G i) (GivenBy H i) s r _ _ (given_more i G H f) (hides_given xs (suc i) G H _ _ f)
 
-itself : (y : ℕ) → is_among y (y ∷ []) ≡ true
+pub itself : (y : ℕ) → is_among y (y ∷ []) ≡ true
 itself y = or_left (y == y) false (eq-eqb y y refl)
 
 module _ (w : World) where

@@ -10,5 +10,6 @@ ghost use Rattle.typing_sound.specs.Settings.{Setting, world_of};
 /// What a closed tree of a program's text has as a type, the plain term that is left of it has too.
 pub fn erasing_keeps_types()
     ensures { (p : Setting) (e : Core) (t : Ground) →
-        CoreHas (world_of p) no_surroundings e t → TermHas (world_of p) no_surroundings (erased e) t }
+        CoreHas (world_of p) no_surroundings e t → TermHas (world_of p) no_surroundings
+        (erased e) t }
 {}

@@ -16,7 +16,8 @@ ghost use Rattle.typing_sound.specs.Settings.{Setting, world_of};
 
 /// The evaluation of a closed well-typed term is safe, in either stage and with any fuel.
 pub fn well_typed_terms_are_safe()
-    ensures { (p : Setting) (tops : List Value) (stage : Stage) (e : Tree) (t : Ground) (fuel : ℕ) →
+    ensures { (p : Setting) (tops : List Value) (stage : Stage) (e : Tree) (t : Ground)
+        (fuel : ℕ) →
         TopsTyped (world_of p) stage tops →
         TermHas (at_stage stage (world_of p)) no_surroundings e t →
         IsSafe (world_of p) stage t (eval tops stage e fuel) }
@@ -24,11 +25,13 @@ pub fn well_typed_terms_are_safe()
 
 /// In stage one a closed well-typed term always has a rule; in stage two it does where it has a simple type.
 pub fn well_typed_terms_have_rules()
-    ensures stage_one { (p : Setting) (tops : List Value) (qs : List Equation) (e : Tree) (t : Ground) (fuel : ℕ) →
+    ensures stage_one { (p : Setting) (tops : List Value) (qs : List Equation) (e : Tree)
+        (t : Ground) (fuel : ℕ) →
         TopsTyped (world_of p) (Some qs) tops →
         TermHas (at_stage (Some qs) (world_of p)) no_surroundings e t →
         HasNoRule (eval tops (Some qs) e fuel) → ⊥ }
-    ensures simple { (p : Setting) (tops : List Value) (stage : Stage) (e : Tree) (t : Ground) (fuel : ℕ) →
+    ensures simple { (p : Setting) (tops : List Value) (stage : Stage) (e : Tree) (t : Ground)
+        (fuel : ℕ) →
         TopsTyped (world_of p) stage tops →
         TermHas (at_stage stage (world_of p)) no_surroundings e t →
         sort_of p.sorts t ≡ Simple →
@@ -37,7 +40,8 @@ pub fn well_typed_terms_have_rules()
 
 /// The value of a closed well-typed term has each of its types.
 pub fn values_have_the_types_of_their_terms()
-    ensures { (p : Setting) (tops : List Value) (stage : Stage) (e : Tree) (t : Ground) (fuel : ℕ) (v : Value)
+    ensures { (p : Setting) (tops : List Value) (stage : Stage) (e : Tree) (t : Ground)
+        (fuel : ℕ) (v : Value)
         (s : State) →
         TopsTyped (world_of p) stage tops →
         TermHas (at_stage stage (world_of p)) no_surroundings e t →
@@ -46,7 +50,8 @@ pub fn values_have_the_types_of_their_terms()
 
 /// A term of a simple type makes no node.
 pub fn simple_terms_make_no_node()
-    ensures { (p : Setting) (tops : List Value) (stage : Stage) (e : Tree) (t : Ground) (fuel : ℕ) (v : Value)
+    ensures { (p : Setting) (tops : List Value) (stage : Stage) (e : Tree) (t : Ground)
+        (fuel : ℕ) (v : Value)
         (s : State) →
         TopsTyped (world_of p) stage tops →
         TermHas (at_stage stage (world_of p)) no_surroundings e t →
@@ -56,7 +61,8 @@ pub fn simple_terms_make_no_node()
 
 /// The equations that a well-typed term adds are well typed in order, also where it ends in a fault.
 pub fn equations_are_well_typed_in_order()
-    ensures { (p : Setting) (tops : List Value) (qs : List Equation) (e : Tree) (t : Ground) (fuel : ℕ) →
+    ensures { (p : Setting) (tops : List Value) (qs : List Equation) (e : Tree) (t : Ground)
+        (fuel : ℕ) →
         TopsTyped (world_of p) (Some qs) tops →
         TermHas (at_stage (Some qs) (world_of p)) no_surroundings e t →
         AreWellTyped qs (world_of p) →
@@ -65,7 +71,8 @@ pub fn equations_are_well_typed_in_order()
 
 /// A call in stage two is safe where its function takes values of these types one by one.
 pub fn well_typed_calls_are_safe()
-    ensures { (p : Setting) (tops : List Value) (f : Value) (vs : List Value) (whole t : Ground) (fuel : ℕ) →
+    ensures { (p : Setting) (tops : List Value) (f : Value) (vs : List Value) (whole t : Ground)
+        (fuel : ℕ) →
         TopsTyped (world_of p) None tops →
         ValueHas (world_of p) f whole → AreTaken (world_of p) (values vs) whole t →
         MayStandIn (world_of p) whole t →

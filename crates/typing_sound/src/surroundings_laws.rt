@@ -12,7 +12,8 @@ ghost use Rattle.typing_sound.specs.Settings.{Setting, Scope, world_of, types_in
 /// More surroundings type no less: a term has each of its types also where its names have more.
 pub fn more_surroundings_type_no_less()
     ensures { (p : Setting) (inner outer : Scope) (e : Tree) (t : Ground) →
-        ((y : ℕ) (u : Ground) → types_in (world_of p) inner y u → types_in (world_of p) outer y u) →
+        ((y : ℕ) (u : Ground) → types_in (world_of p) inner y u → types_in
+        (world_of p) outer y u) →
         TermHas (world_of p) (types_in (world_of p) inner) e t →
         TermHas (world_of p) (types_in (world_of p) outer) e t }
 {}
