@@ -40,7 +40,8 @@ fn next_following(following: u8, byte: u8) -> u8
 
 /// How many chars a text has.
 pub fn count_chars(bytes: &[u8]) -> usize
-    ensures { result ≡ length (chars bytes.now) }
+    ensures count { result ≡ length (chars bytes.now) }
+    ensures within { result ≤ length bytes.now }
 {
     let mut count = 0usize;
     let mut following = 0u8;

@@ -18,6 +18,6 @@ loop-byte-preserved c =
           (omega (arith, w.count-is, next.1, none, i.0), sym next.0, omega (arith, w.count-is, i.2))
     ]
 
-pub returns : goal.returns
-returns c =
+pub returns-clause-count : goal.returns-clause-count
+returns-clause-count c =
     c.loop-byte.invariant.0 ∙ ap (completed 0) (all_taken 0 c.args.bytes.now c.loop-byte.byte-index c.loop-byte-test.false) ∙ counted c.args.bytes.now
