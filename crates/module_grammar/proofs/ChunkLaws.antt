@@ -1,5 +1,5 @@
 -- A chunk is the first token and those behind it that stand to the right of column 1.
-use Rattle.std.proofs.Common.{◌≡◌, ℕ, suc, Bool, true, false, if◌then◌else◌, List, [], ◌∷◌, take, drop, refl, sym, ◌∙◌, ap, ltb}
+use Rattle.std.proofs.Common.{◌≡◌, suc, Bool, true, false, if◌then◌else◌, List, [], ◌∷◌, take, drop, refl, sym, ◌∙◌, ap, ltb}
 use Rattle.elm_base.specs.Lexemes.{Lexeme}
 use Rattle.grammar.specs.Reader.{right, extent, is_done}
 use Rattle.module_grammar.specs.Chunks.{with_token, chunks}

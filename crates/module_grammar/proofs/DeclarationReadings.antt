@@ -1,18 +1,16 @@
 -- The parsers of headers, imports and declarations read their grammar.
-use Rattle.std.proofs.Common.{ℕ, true, false, not, List, [], ◌∷◌, ◌++◌, refl, None}
+use Rattle.std.proofs.Common.{ℕ, true, false, not, List, [], ◌∷◌, refl}
 use Rattle.grammar.specs.declared.terminal.Terminal.{Terminal}
 use Rattle.grammar.specs.declared.terminal.Terminal.TheVariants as k
 use Rattle.grammar.specs.Terminals.{same_terminal, is_qualified}
 use Rattle.grammar.specs.Spelling.{int_value}
 use Rattle.grammar.specs.Rules as rule
 use Rattle.grammar.specs.Reader as reader
-use Rattle.grammar.specs.Lists as lists
 use Rattle.grammar.specs.Lists.{TakesSome}
 use Rattle.grammar.proofs.Laws.{Reading, seq, by, within, spelled, name, mark, nothing, either, optional, only, at, many, spot}
 use Rattle.grammar.proofs.ListLaws.{separated}
 use Rattle.grammar.proofs.ListTurns.{takes_some}
 use Rattle.pattern_parser.specs.TypeReader.{arguments_begin}
-use Rattle.pattern_parser.specs.PatternReader.{patterns_begin}
 use Rattle.pattern_parser.proofs.TypeReadings as types
 use Rattle.pattern_parser.proofs.TypeReadings.{type_reads}
 use Rattle.expr_grammar.specs.ExprReader.{below, operators_begin}

@@ -1,25 +1,23 @@
 -- A parser of whole chunks, beside what they stand for.
-use Rattle.std.proofs.Common.{◌≡◌, ◌≤◌, ℕ, suc, nat_le, Bool, true, false, if◌then◌else◌, ◌⊎◌, inl, inr, List, [], ◌∷◌, Some, None, refl, sym, ◌∙◌, ap, subst, append-nil}
+use Rattle.std.proofs.Common.{◌≡◌, ◌≤◌, suc, nat_le, Bool, true, false, if◌then◌else◌, List, [], ◌∷◌, Some, None, refl, sym, ◌∙◌, ap, subst, append-nil}
 use Rattle.std.proofs.lemmas.Bool.{leb-true, le-leb}
 use Rattle.elm_base.specs.Lexemes.{Lexeme}
 use Rattle.elm_base.specs.declared.tree.Declaration.{Declaration}
-use Rattle.elm_base.specs.declared.tree.Import.{Import}
 use Rattle.grammar.specs.declared.terminal.Terminal.{Terminal}
-use Rattle.grammar.specs.Terminals.{terminal, has, starts}
+use Rattle.grammar.specs.Terminals.{terminal, starts}
 use Rattle.grammar.specs.Rules.{Rule}
-use Rattle.grammar.specs.Reader.{Parser, Outcome, is_done, stands_in}
+use Rattle.grammar.specs.Reader.{Parser, is_done, stands_in}
 use Rattle.grammar.proofs.Laws.{Reading, Begins, apart, apart_has, ok_same, then_ok}
 use Rattle.tree_nesting.specs.Nesting.{max_nesting}
 use Rattle.tree_nesting.specs.ExpressionNesting.{declaration_nesting}
 use Rattle.expr_grammar.specs.ExprReader.{below}
-use Rattle.module_grammar.specs.declared.header.Header.{Header}
 use Rattle.module_grammar.specs.Declarations as g
 use Rattle.module_grammar.specs.Declarations.{DerivesDeclaration}
 use Rattle.module_grammar.specs.DeclarationReader as m
 use Rattle.module_grammar.specs.DeclarationReader.{line, whole}
 use Rattle.module_grammar.specs.Modules.{Line}
 use Rattle.module_grammar.specs.ModuleReader.{declaration_line}
-use Rattle.module_grammar.proofs.DeclarationReadings.{header_reads, import_reads, declaration_reads}
+use Rattle.module_grammar.proofs.DeclarationReadings.{header_reads, import_reads}
 use Rattle.module_grammar.proofs.DeclarationLaws.{decides}
 
 -- it gives what derives, and all of it

@@ -1,9 +1,8 @@
 -- What is said of a module's chunks is what they stand for, or their first fault; and a list of tokens stands for at most one module.
-use Rattle.std.proofs.Common.{◌≡◌, ◌≤◌, ◌<◌, ℕ, suc, ◌+◌, nat_le, Bool, true, false, ◌&&◌, if◌then◌else◌, ◌⊎◌, inl, inr, ⊎_elim, List, [], ◌∷◌, ◌++◌, length, map, Option, Some, None, Result, Ok, Err, refl, sym, ◌∙◌, ap, subst, append-nil, append_assoc, arith, length-append}
+use Rattle.std.proofs.Common.{◌≡◌, ◌≤◌, ℕ, suc, ◌+◌, nat_le, Bool, true, false, ◌&&◌, if◌then◌else◌, ◌⊎◌, inl, inr, List, [], ◌∷◌, ◌++◌, length, map, Option, Some, None, Ok, Err, refl, sym, ◌∙◌, ap, subst, append-nil, append_assoc, arith, length-append}
 use Rattle.std.proofs.lemmas.Bool.{leb-false, lt-leb}
 use Rattle.std.proofs.lemmas.List.{map-append}
 use Rattle.elm_base.specs.Lexemes.{Lexeme}
-use Rattle.elm_base.specs.declared.fault.FaultKind.{FaultKind}
 use Rattle.elm_base.specs.declared.fault.FaultKind.TheVariants as kind
 use Rattle.elm_base.specs.declared.tree.Import.{Import}
 use Rattle.elm_base.specs.declared.tree.Module.{Module}
@@ -24,11 +23,11 @@ use Rattle.module_grammar.specs.Declarations as g
 use Rattle.module_grammar.specs.Declarations.{DerivesDeclaration, rules_at}
 use Rattle.module_grammar.specs.DeclarationReader as m
 use Rattle.module_grammar.specs.DeclarationReader.{line}
-use Rattle.module_grammar.specs.Modules.{Chunk, line_of, Line, NoLine, fault, heads, stands, definitions, is_there, too_large, Declares, Continues, Stands, DerivesModule, Nest, NoLarge, Fit, Wrong, Right, DeclaresFault, ContinuesFault, StandsFault, FirstFault, no_header, made}
+use Rattle.module_grammar.specs.Modules.{Chunk, line_of, Line, fault, heads, stands, definitions, is_there, too_large, Declares, Continues, Stands, DerivesModule, Nest, NoLarge, Fit, Wrong, Right, DeclaresFault, ContinuesFault, StandsFault, FirstFault, no_header, made}
 use Rattle.module_grammar.specs.ModuleReader.{Said, and_said, or_fault, declaration_line, sized, judged, declared, declarations, imports, headed, read}
 use Rattle.module_grammar.proofs.DeclarationReadings.{declarations_begin, header_reads, import_reads, declaration_reads}
 use Rattle.module_grammar.proofs.DeclarationLaws.{one_declaration}
-use Rattle.module_grammar.proofs.Exact.{Exact, Nested, header_exact, import_exact, declaration_exact, begun}
+use Rattle.module_grammar.proofs.Exact.{Exact, header_exact, import_exact, declaration_exact, begun}
 
 abbrev depth : ℕ
 depth = suc max_nesting

@@ -1,16 +1,14 @@
 -- In a module that derives, each annotation stands directly before the definition of its name.
-use Rattle.std.proofs.Common.{◌≡◌, ℕ, nat_eq, Bool, true, false, not, ◌&&◌, ◌⊎◌, inl, inr, List, [], ◌∷◌, ◌++◌, Option, Some, None, refl, sym, ◌∙◌, ap, subst}
+use Rattle.std.proofs.Common.{◌≡◌, ℕ, nat_eq, Bool, true, false, ◌&&◌, ◌⊎◌, inl, inr, List, [], ◌∷◌, ◌++◌, Some, None, refl, sym, ◌∙◌, ap}
 use lib.Pointwise.{pointwise}
 use Rattle.elm_base.specs.Lexemes.{Lexeme}
 use Rattle.elm_base.specs.declared.tree.Import.{Import}
 use Rattle.elm_base.specs.declared.tree.Module.{Module}
-use Rattle.elm_base.specs.declared.tree.Pattern.{Pattern}
 use Rattle.elm_base.specs.declared.tree.Set.{Set}
 use Rattle.elm_base.specs.declared.tree.Expr.{Expr}
 use Rattle.elm_base.specs.declared.tree.Declaration.{Declaration, out-Declaration}
 use Rattle.elm_base.specs.declared.tree.Declaration.TheVariants as d
 use Rattle.elm_base.specs.declared.tree.Declaration.TheOpen as open_
-use Rattle.grammar.specs.declared.terminal.Terminal.{Terminal}
 use Rattle.grammar.specs.declared.terminal.Terminal.TheVariants as k
 use Rattle.grammar.specs.Terminals.{same_terminal, starts}
 use Rattle.grammar.specs.Reader as reader
@@ -23,7 +21,7 @@ use Rattle.module_grammar.specs.Declarations as g
 use Rattle.module_grammar.specs.Declarations.{DerivesDeclaration, rules_at}
 use Rattle.module_grammar.specs.DeclarationReader as m
 use Rattle.module_grammar.specs.DeclarationReader.{own_name, levels_begin}
-use Rattle.module_grammar.specs.Modules.{Chunk, Line, is_named, begins_definition, stands_layer, stands, Declares, Continues, Stands, made}
+use Rattle.module_grammar.specs.Modules.{Chunk, Line, is_named, begins_definition, stands_layer, Declares, Continues, Stands}
 use Rattle.module_grammar.proofs.DeclarationReadings.{own_name_reads, type_declaration_reads, port_reads, levels_read}
 use Rattle.module_grammar.proofs.Exact.{begun}
 use Rattle.module_grammar.proofs.ModuleLaws.{begun_so}

@@ -1,5 +1,5 @@
 -- A module's tokens, declaration by declaration.
-use Rattle.std.specs.Prelude.{ℕ, nat_lt, Bool, if◌then◌else◌, List, [], ◌∷◌}
+use Rattle.std.specs.Prelude.{nat_lt, if◌then◌else◌, List, [], ◌∷◌}
 use Rattle.elm_base.specs.Lexemes.{Lexeme}
 
 -- The token before these chunks. It belongs to the first of them where that begins to the right of column 1.

@@ -1,5 +1,5 @@
 -- The parsers of headers, imports and declarations, as functions on the tokens.
-use Rattle.std.specs.Prelude.{ℕ, Bool, true, false, not, if◌then◌else◌, List, [], ◌∷◌, Option, Some, None}
+use Rattle.std.specs.Prelude.{ℕ, not, if◌then◌else◌, List, [], ◌∷◌, Option, Some, None}
 use Rattle.elm_base.specs.declared.token.At.{At}
 use Rattle.elm_base.specs.declared.tree.Spot.{Spot}
 use Rattle.elm_base.specs.declared.tree.Side.{Side}

@@ -1,5 +1,5 @@
 -- The grammar of what stands at the top level of a module: the header, imports and declarations.
-use Rattle.std.specs.Prelude.{ℕ, nat_le, Bool, true, false, not, List, [], ◌∷◌, Option, Some, None, ℤ, pos, negsuc}
+use Rattle.std.specs.Prelude.{ℕ, nat_le, Bool, true, false, not, List, ◌∷◌, ℤ, pos, negsuc}
 use Rattle.elm_base.specs.declared.token.At.{At}
 use Rattle.elm_base.specs.declared.tree.Spot.{Spot}
 use Rattle.elm_base.specs.declared.tree.Side.{Side}

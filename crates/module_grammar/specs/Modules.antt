@@ -2,7 +2,6 @@
 use Rattle.std.specs.Prelude.{◌≡◌, ◌≤◌, ℕ, nat_eq, nat_le, Bool, true, false, not, ◌&&◌, if◌then◌else◌, ◌⊎◌, List, [], ◌∷◌, ◌++◌, length, map, codes, Option, Some, None}
 use lib.Pointwise.{pointwise}
 use Rattle.elm_base.specs.Lexemes.{Lexeme}
-use Rattle.elm_base.specs.declared.token.At.{At}
 use Rattle.elm_base.specs.declared.fault.FaultKind.{FaultKind}
 use Rattle.elm_base.specs.declared.fault.FaultKind.TheVariants as kind
 use Rattle.elm_base.specs.declared.tree.Exposing.TheVariants as exposing_

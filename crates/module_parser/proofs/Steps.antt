@@ -1,5 +1,5 @@
 -- What is said chunk by chunk, beside the loops over tokens.
-use Rattle.std.proofs.Common.{◌≡◌, ◌≢◌, ◌<◌, ◌≤◌, ℕ, suc, ◌+◌, ◌-◌, nat_le, Bool, true, false, ◌&&◌, if◌then◌else◌, List, [], ◌∷◌, ◌++◌, length, map, take, drop, get_or, Option, Some, None, Result, Ok, Err, refl, sym, ◌∙◌, ap, subst, append-nil, append_assoc, arith}
+use Rattle.std.proofs.Common.{◌≡◌, ◌≢◌, ◌<◌, ◌≤◌, ℕ, suc, ◌+◌, ◌-◌, true, false, List, [], ◌∷◌, ◌++◌, length, take, drop, get_or, Result, Ok, Err, refl, sym, ◌∙◌, ap, subst, append-nil, append_assoc, arith}
 use Rattle.std.specs.Prelude.{IfOk, IfErr, MatchResult}
 use Rattle.elm_base.specs.Lexemes.{Lexeme}
 use Rattle.elm_base.specs.declared.memory.Halt.{Halt}
@@ -16,15 +16,15 @@ use Rattle.grammar.specs.declared.terminal.Terminal.TheVariants as k
 use Rattle.grammar.specs.Terminals.{starts}
 use Rattle.grammar.specs.Reader.{Outcome, Reads, right, extent, is_done}
 use Rattle.tree_nesting.specs.Nesting.{max_nesting}
-use Rattle.block_sizes.specs.BlockSizes.{most_definitions, defined_at, large_declaration, present}
+use Rattle.block_sizes.specs.BlockSizes.{most_definitions}
 use Rattle.module_grammar.specs.declared.header.Header.{Header}
 use Rattle.module_grammar.specs.Chunks.{chunks}
-use Rattle.module_grammar.specs.DeclarationReader.{line, header, import_, own_name}
-use Rattle.module_grammar.specs.Modules.{Chunk, line_of, fault, is_named, begins_definition, DerivesModule, FirstFault, Fit, Nest, no_header, is_port, ends_in_port, definitions, is_there, too_large}
+use Rattle.module_grammar.specs.DeclarationReader.{line, header, own_name}
+use Rattle.module_grammar.specs.Modules.{Chunk, line_of, is_named, begins_definition, DerivesModule, FirstFault, Fit, Nest, no_header, is_port, ends_in_port, definitions}
 use Rattle.module_grammar.specs.ModuleReader.{Said, and_said, or_fault, declared, declarations, imports, headed, read, Says, SaysOf}
 use Rattle.module_grammar.proofs.ChunkLaws as chunk_laws
 use Rattle.module_grammar.proofs.ModuleLaws.{ok_is, err_is, definitions-append, ReadAs, read_is, stands_read, fault_read}
-use Rattle.module_parser.specs.Saying.{Faulted, Passes, Gives, GivesNext, ImportsNext, with_imports, with_declarations}
+use Rattle.module_parser.specs.Saying.{Faulted, GivesNext, ImportsNext, with_imports, with_declarations}
 
 pub cut_off : (ts : List Lexeme) → is_done ts ≡ false → chunks ts ≡ take (extent 1 ts) ts ∷ chunks (drop (extent 1 ts) ts)
 cut_off = chunk_laws.cut_off

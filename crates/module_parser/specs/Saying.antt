@@ -1,6 +1,5 @@
 -- What calls on the way to a module ensure.
 use Rattle.std.specs.Prelude.{◌≡◌, ◌+◌, ℕ, List, [], ◌∷◌, ◌++◌, length, Result, Ok, Err}
-use Rattle.elm_base.specs.Lexemes.{Lexeme}
 use Rattle.elm_base.specs.declared.memory.Halt.{Halt}
 use Rattle.elm_base.specs.declared.memory.Halt.TheVariants as halt
 use Rattle.elm_base.specs.declared.fault.FaultKind.{FaultKind}
