@@ -6,4 +6,6 @@ mod cells;
 #[cfg(test)]
 mod numbers;
 #[cfg(test)]
+mod plans;
+#[cfg(test)]
 mod texts;

@@ -1,5 +1,5 @@
 -- A piece's text is what is written at once and the texts of the pieces that follow.
-use Rattle.std.proofs.Common.{◌≡◌, ℕ, zero, suc, ◌+◌, ◌<◌, ◌≤◌, Bool, true, false, if◌then◌else◌, Option, Some, None, List, [], ◌∷◌, ◌++◌, length, get_or, drop, refl, sym, ap, ◌∙◌, subst, arith, append_assoc, codes}
+use Rattle.std.proofs.Common.{◌≡◌, ℕ, zero, suc, ◌<◌, ◌≤◌, Bool, true, false, if◌then◌else◌, Option, Some, None, List, [], ◌∷◌, ◌++◌, length, get_or, drop, refl, sym, ap, ◌∙◌, subst, arith, append_assoc, codes}
 use Rattle.std.specs.List.{slice_get}
 use Rattle.std.specs.Str.{bytes_eq}
 use Rattle.std.proofs.lemmas.List.{append-nil}
@@ -12,7 +12,7 @@ use Rattle.value_arena.specs.Soundness.{RefsBelow, FieldsBelow, PartsBelow, Unfo
 use Rattle.value_arena.specs.Unfolding.{Lambdas, value_of, values_of, values_at, fields_at, unfolded}
 use Rattle.value_text.specs.declared.piece.Piece.{Piece}
 use Rattle.value_text.specs.declared.piece.Piece.TheVariants.{Whole, Rest, Parts, Arguments, Fields, Closing}
-use Rattle.value_text.specs.Pieces.{refs_of, fields_of, label_of, piece_text, waiting, opening, opening_of, written, next, inner, first_part, first_field, element_opening, more_of_list, comma_or, then_part, argument_opening, then_argument, bracketed, has_arguments, field_opening, then_field, shown_field, shown_value, PieceBelow, PiecesBelow}
+use Rattle.value_text.specs.Pieces.{refs_of, fields_of, label_of, piece_text, waiting, opening, opening_of, written, next, inner, element_opening, more_of_list, comma_or, then_part, argument_opening, then_argument, bracketed, has_arguments, field_opening, then_field, shown_field, shown_value, PieceBelow, PiecesBelow}
 use Rattle.value_text.specs.Sizes.{size, rest_size, parts_size, fields_size, piece_size, sizes}
 use Rattle.value_text.proofs.Steps.{drop_some, drop_none, none_behind, ref_below, refs_below_more}
 

@@ -1,14 +1,14 @@
 -- What a step of the writing keeps.
-use Rattle.std.proofs.Common.{◌≡◌, ℕ, zero, suc, ◌+◌, ◌<◌, ◌≤◌, Option, Some, None, List, [], ◌∷◌, ◌++◌, length, drop, refl, sym, ap, ◌∙◌, subst, arith, append_assoc}
+use Rattle.std.proofs.Common.{◌≡◌, ℕ, zero, suc, ◌+◌, ◌<◌, ◌≤◌, Some, None, List, [], ◌∷◌, ◌++◌, drop, refl, sym, ap, ◌∙◌, subst, arith, append_assoc}
 use Rattle.std.specs.List.{slice_get}
 use Rattle.std.proofs.lemmas.List.{append-nil}
-use Rattle.elm_meaning.specs.Values.{Value, Function, Member, NoFunctions}
+use Rattle.elm_meaning.specs.Values.{Member, NoFunctions}
 use Rattle.value_arena.specs.declared.node.Node.{Node}
 use Rattle.value_arena.specs.Soundness.{RefsBelow}
 use Rattle.value_arena.specs.Unfolding.{Lambdas}
 use Rattle.value_text.specs.declared.piece.Piece.{Piece}
 use Rattle.value_text.specs.Pieces.{piece_text, waiting, PieceBelow, PiecesBelow}
-use Rattle.value_text.specs.Sizes.{piece_size, sizes}
+use Rattle.value_text.specs.Sizes.{sizes}
 
 -- the pieces of a text don't hang on what closures are
 abbrev pub no_lambdas : Lambdas

@@ -1,5 +1,5 @@
 -- A turn of the writing.
-use Rattle.std.proofs.Common.{◌≡◌, ℕ, zero, suc, ◌+◌, ◌<◌, ◌≤◌, List, [], ◌∷◌, ◌++◌, length, drop, refl, sym, ap, ◌∙◌, subst, arith, append_assoc}
+use Rattle.std.proofs.Common.{◌≡◌, ℕ, ◌+◌, ◌<◌, ◌≤◌, List, [], ◌∷◌, ◌++◌, length, drop, sym, ap, ◌∙◌, subst, arith, append_assoc}
 use Rattle.std.proofs.lemmas.List.{append-nil, drop_at}
 use Rattle.elm_meaning.specs.Texts.{char_count}
 use Rattle.value_arena.specs.declared.node.Node.{Node}
@@ -7,8 +7,8 @@ use Rattle.value_arena.specs.Soundness.{Unfolds}
 use Rattle.value_arena.specs.Unfolding.{Lambdas}
 use Rattle.value_text.specs.declared.piece.Piece.{Piece}
 use Rattle.value_text.specs.Counting.{completed, open_after}
-use Rattle.value_text.specs.Pieces.{piece_text, waiting, written, next, PieceBelow, PiecesBelow}
-use Rattle.value_text.specs.Sizes.{sizes, piece_size}
+use Rattle.value_text.specs.Pieces.{waiting, written, next, PieceBelow, PiecesBelow}
+use Rattle.value_text.specs.Sizes.{sizes}
 use Rattle.value_text.proofs.Counts.{counted, open-append, completed-append}
 use Rattle.value_text.proofs.Steps.{no_lambdas, waiting-append, sizes-append, below-append, below-split}
 use Rattle.value_text.proofs.Spells.{spells, follows_below}

@@ -1,6 +1,6 @@
 -- How many pieces are written for a text, which says that its writing ends.
 use Rattle.std.specs.Prelude.{ℕ, suc, ◌+◌, List, [], ◌∷◌, drop, slice_get}
-use Rattle.elm_meaning.specs.Values.{Value, Values, Fields as FieldsOf, Int, Char, Text, Unit as UnitValue, Nil, Cons, Tuple, Made, Record, Applicable, Cells, Signal, NoValues, AndValue, NoFields, AndField}
+use Rattle.elm_meaning.specs.Values.{Value, Values, Fields as FieldsOf, Cons, Tuple, Made, Record, NoValues, AndValue, NoFields, AndField}
 use Rattle.value_arena.specs.declared.node.Node.{Node}
 use Rattle.value_arena.specs.Unfolding.{Lambdas, values_of, unfolded, values_at, fields_at}
 use Rattle.value_text.specs.declared.piece.Piece.{Piece}

@@ -1,4 +1,4 @@
-use Rattle.std.proofs.Common.{◌≡◌, ◌+◌, ◌≤◌, take}
+use Rattle.std.proofs.Common.{◌≡◌, ◌≤◌, take}
 use Rattle.value_text.specs.Counting.{completed, open_after}
 use Rattle.value_text.proofs.budget.count_chars.Given as goal
 

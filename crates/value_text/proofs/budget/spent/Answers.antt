@@ -1,5 +1,5 @@
-use Rattle.std.proofs.Common.{get_or, ◌≡◌, ◌+◌, ap, sym, ◌∙◌, arith, List, ℕ, ◌∷◌, [], ⊎_elim}
-use Rattle.value_text.specs.Counting.{completed, open_after}
+use Rattle.std.proofs.Common.{get_or, ◌≡◌, ap, sym, ◌∙◌, arith, ℕ, ◌∷◌, []}
+use Rattle.value_text.specs.Counting.{open_after}
 use Rattle.value_text.proofs.Counts.{next_byte, none_yet, spent_over, last_one}
 use Rattle.value_text.proofs.budget.spent.Goals.{then-following-eq0+in_ok-left, else-following-eq0}
 use Rattle.value_text.proofs.budget.spent.Goals as goal

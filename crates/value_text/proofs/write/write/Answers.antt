@@ -1,4 +1,4 @@
-use Rattle.std.proofs.Common.{◌≡◌, ◌∙◌, ap, sym, arith, length, drop}
+use Rattle.std.proofs.Common.{◌≡◌, ◌∙◌, ap, arith, length, drop}
 use Rattle.std.proofs.lemmas.List.{nil_from_length}
 use Rattle.elm_meaning.specs.ValueText.{text_of}
 use Rattle.value_arena.specs.Unfolding.{unfolded}
