@@ -1,6 +1,5 @@
 -- Items under each other.
-use Rattle.std.proofs.Common.{◌≡◌, ℕ, zero, suc, ◌+◌, ◌-◌, ◌≤◌, max, Bool, true, false, List, [], ◌∷◌, ◌++◌, length, map, reverse, replicate, refl, sym, ap, ◌∙◌, arith, append_assoc, length-append}
-use Rattle.std.specs.List.{flat_map}
+use Rattle.std.proofs.Common.{◌≡◌, ℕ, ◌+◌, ◌-◌, ◌≤◌, max, List, [], ◌∷◌, ◌++◌, length, map, reverse, replicate, refl, sym, ap, ◌∙◌, arith, append_assoc, length-append}
 use Rattle.std.specs.Str.{chars, encode_utf8_all}
 use Rattle.std.proofs.lemmas.List.{length-map, length-replicate, map-append, replicate-append-replicate, reverse-append}
 use Rattle.std.proofs.lemmas.Str.{encodes-append, encodes-chars, IsUtf8-from_is_utf8}
@@ -8,10 +7,10 @@ use Rattle.elm_meaning.specs.Layout.{Grid, RowsHave, blanks, wide, above, all_ab
 use Rattle.cell_rows.specs.declared.types.Cells.{Cells}
 use Rattle.cell_rows.specs.declared.flows.Measure.{Measure}
 use Rattle.cell_rows.specs.declared.flows.Measure.TheVariants.{Width, Height}
-use Rattle.cell_rows.specs.Elements.{IsWhole, AreWhole, grid}
-use Rattle.cell_rows.specs.Flows.{measure_of, total, most, rows_within, rows_above}
-use Rattle.cell_rows.proofs.Codes.{encodes-blanks, map-map}
-use Rattle.cell_rows.proofs.Grids.{AreRows, IsGrid, IsGrid-none, IsGrid-whole, AreRows-append, AreRows-wide, encodes-wide}
+use Rattle.cell_rows.specs.Elements.{AreWhole, grid}
+use Rattle.cell_rows.specs.Flows.{total, most, rows_within, rows_above}
+use Rattle.cell_rows.proofs.Codes.{encodes-blanks}
+use Rattle.cell_rows.proofs.Grids.{IsGrid, IsGrid-none, IsGrid-whole, AreRows-append, AreRows-wide, encodes-wide}
 
 pub above_width : (items : List Cells) → (all_above (map grid items)).width ≡ most Width items
 above_width [] = refl

@@ -1,16 +1,16 @@
 -- Items side by side.
-use Rattle.std.proofs.Common.{◌≡◌, ℕ, zero, suc, ◌+◌, ◌-◌, ◌<◌, ◌≤◌, max, Bool, true, false, ltb, if◌then◌else◌, List, [], ◌∷◌, ◌++◌, length, get_or, map, reverse, replicate, refl, sym, ap, ◌∙◌, arith, append_assoc, length-append}
-use Rattle.std.specs.List.{flat_map, range_with_len}
+use Rattle.std.proofs.Common.{◌≡◌, ℕ, zero, suc, ◌+◌, ◌-◌, ◌<◌, ◌≤◌, max, Bool, true, false, ltb, if◌then◌else◌, List, [], ◌∷◌, ◌++◌, length, get_or, map, replicate, refl, sym, ap, ◌∙◌, arith, append_assoc, length-append}
+use Rattle.std.specs.List.{range_with_len}
 use Rattle.std.specs.Str.{chars, encode_utf8_all}
-use Rattle.std.proofs.lemmas.Bool.{cases_lt, ltb-true, ltb-false}
-use Rattle.std.proofs.lemmas.List.{append-nil, length-map, length-replicate, map-append, replicate-append-replicate, get_or_append_left, get_or-append_right, get_or-replicate}
+use Rattle.std.proofs.lemmas.Bool.{ltb-true, ltb-false}
+use Rattle.std.proofs.lemmas.List.{append-nil, length-replicate, map-append, replicate-append-replicate, get_or_append_left, get_or-append_right, get_or-replicate}
 use Rattle.std.proofs.lemmas.List.FromFn.{fill_by_all}
 use Rattle.std.proofs.lemmas.Str.{encodes-append}
-use Rattle.elm_meaning.specs.Layout.{Grid, RowsHave, blanks, blank_rows, beside, all_beside, side_by_side, tall}
+use Rattle.elm_meaning.specs.Layout.{Grid, blanks, blank_rows, beside, all_beside, side_by_side, tall}
 use Rattle.cell_rows.specs.declared.types.Cells.{Cells}
 use Rattle.cell_rows.specs.declared.flows.Measure.TheVariants.{Width, Height}
 use Rattle.cell_rows.specs.Elements.{IsWhole, AreWhole, grid}
-use Rattle.cell_rows.specs.Flows.{measure_of, total, most, row_of, row_beside, rows_beside}
+use Rattle.cell_rows.specs.Flows.{total, most, row_of, row_beside, rows_beside}
 use Rattle.cell_rows.proofs.Codes.{encodes_rows, encodes_blank_rows, scalars-append}
 use Rattle.cell_rows.proofs.Grids.{AreRows, IsGrid, IsGrid-none, IsGrid-whole, AreRows-append, AreRows-blank}
 

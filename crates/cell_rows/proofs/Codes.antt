@@ -1,11 +1,11 @@
 -- Codes and their bytes.
-use Rattle.std.proofs.Common.{◌≡◌, ℕ, zero, suc, ◌<◌, Bool, true, false, ◌&&◌, List, [], ◌∷◌, ◌++◌, length, map, replicate, refl, sym, ap, ◌∙◌, arith, cond}
-use Rattle.std.specs.List.{flat_map, range_with_len}
+use Rattle.std.proofs.Common.{◌≡◌, ℕ, zero, suc, Bool, true, false, ◌&&◌, List, [], ◌∷◌, ◌++◌, map, replicate, refl, ap, arith}
+use Rattle.std.specs.List.{flat_map}
 use Rattle.std.specs.Char.{encode_utf8}
-use Rattle.std.specs.Str.{chars, is_utf8, encode_utf8_all, all_scalars}
+use Rattle.std.specs.Str.{chars, encode_utf8_all, all_scalars}
 use Rattle.std.proofs.lemmas.Bool.{false≢true}
 use Rattle.std.proofs.lemmas.List.{append-nil}
-use Rattle.std.proofs.lemmas.Str.{encode_ascii, encodes-append, encodes-chars, scalars-chars, IsUtf8-from_is_utf8}
+use Rattle.std.proofs.lemmas.Str.{encode_ascii, encodes-chars, IsUtf8-from_is_utf8}
 use Rattle.elm_meaning.specs.Layout.{RowsHave, blanks, blank_rows}
 
 pub encodes-blanks : (n : ℕ) → encode_utf8_all (blanks n) ≡ replicate n 32

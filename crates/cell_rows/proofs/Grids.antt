@@ -1,10 +1,9 @@
 -- Rectangles that have their rows, and what the code makes of them.
-use Rattle.std.proofs.Common.{◌≡◌, ℕ, zero, suc, ◌+◌, ◌-◌, ◌≤◌, Bool, true, false, ◌&&◌, leb, if◌then◌else◌, List, [], ◌∷◌, ◌++◌, length, map, replicate, refl, sym, ap, ◌∙◌, arith, length-append}
-use Rattle.std.specs.Str.{chars, is_utf8, encode_utf8_all, all_scalars}
+use Rattle.std.proofs.Common.{◌≡◌, ℕ, zero, suc, ◌-◌, ◌≤◌, Bool, true, false, ◌&&◌, leb, if◌then◌else◌, List, [], ◌∷◌, ◌++◌, length, map, refl, ap, ◌∙◌, arith, length-append}
+use Rattle.std.specs.Str.{chars, encode_utf8_all, all_scalars}
 use Rattle.std.proofs.lemmas.Bool.{le-leb}
 use Rattle.std.proofs.lemmas.List.{append-nil, length-map, length-replicate}
 use Rattle.std.proofs.lemmas.Str.{chars-encodes, scalars-chars, IsUtf8-from_is_utf8, is_utf8-from_IsUtf8}
-use Rattle.elm_meaning.specs.Values.{Cells as CellsValue}
 use Rattle.elm_meaning.specs.Answers.{Answer, Gives}
 use Rattle.elm_meaning.specs.Layout.{Grid, RowsHave, HasRows, element_of, laid_out, blanks, blank_rows, wide, no_cells, blank}
 use Rattle.cell_rows.specs.declared.types.Cells.{Cells}

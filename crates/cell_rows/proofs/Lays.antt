@@ -1,15 +1,13 @@
 -- What calls give, laid out as the native lays it out.
 use Rattle.std.proofs.Common.{◌≡◌, ℕ, ◌≤◌, Bool, true, false, List, [], ◌∷◌, map, reverse, Result, Ok, Err, IfOk, refl, sym, ap, ◌∙◌, subst, arith}
-use Rattle.std.specs.Str.{encode_utf8_all}
-use Rattle.elm_meaning.specs.Values.{Int}
 use Rattle.elm_meaning.specs.Layout.{Grid, all_above, all_beside, flow, laid_out}
 use Rattle.cell_rows.specs.declared.types.Cells.{Cells}
 use Rattle.cell_rows.specs.declared.types.Direction.{Direction}
-use Rattle.cell_rows.specs.declared.types.Direction.TheVariants.{Up, Down, Left, Right}
+use Rattle.cell_rows.specs.declared.types.Direction.TheVariants.{Up, Left}
 use Rattle.cell_rows.specs.declared.flows.Measure.TheVariants.{Width, Height}
-use Rattle.cell_rows.specs.Elements.{AreWhole, IsWithin, LaysOut, direction, elements, element, grid, flow_grid}
+use Rattle.cell_rows.specs.Elements.{AreWhole, IsWithin, LaysOut, direction, elements, grid, flow_grid}
 use Rattle.cell_rows.specs.Flows.{ordered, total, most, rows_above, rows_beside}
-use Rattle.cell_rows.proofs.Grids.{IsGrid, lays_out}
+use Rattle.cell_rows.proofs.Grids.{lays_out}
 use Rattle.cell_rows.proofs.Above.{above_width, above_height, above_rows, IsGrid-all_above, grids-reverse, whole-reverse, total-reverse, most-reverse}
 use Rattle.cell_rows.proofs.Beside.{beside_width, beside_height, beside_rows, IsGrid-all_beside}
 use Rattle.cell_rows.proofs.Replies.{flow_answer}

@@ -1,10 +1,10 @@
 -- The lines of a text by the line at hand.
-use Rattle.std.proofs.Common.{◌≡◌, ℕ, zero, suc, ◌+◌, ◌-◌, ◌≤◌, max, Bool, true, false, eqb, ltb, ◌||◌, if◌then◌else◌, List, [], ◌∷◌, ◌++◌, length, map, replicate, refl, sym, ap, ◌∙◌, arith, append_assoc, length-append}
+use Rattle.std.proofs.Common.{◌≡◌, ℕ, suc, ◌+◌, ◌-◌, ◌≤◌, max, Bool, true, false, eqb, ltb, ◌||◌, if◌then◌else◌, List, [], ◌∷◌, ◌++◌, length, map, replicate, refl, sym, ap, ◌∙◌, arith, append_assoc}
 use Rattle.std.specs.Char.{encode_utf8}
 use Rattle.std.specs.Str.{encode_utf8_all, all_scalars}
 use Rattle.std.proofs.lemmas.List.{append-nil, length-map, map-append, length_push}
 use Rattle.std.proofs.lemmas.Str.{encodes-append}
-use Rattle.elm_meaning.specs.Layout.{Grid, lines_of, onto_first, shown, widest, wide, blanks, text_grid}
+use Rattle.elm_meaning.specs.Layout.{lines_of, onto_first, shown, widest, wide, blanks, text_grid}
 use Rattle.cell_rows.specs.Lines.{filled, rows_from, widest_from}
 use Rattle.cell_rows.proofs.Codes.{encodes-blanks, encodes-one, map-map, scalars-parts, scalars-cons}
 use Rattle.cell_rows.proofs.Grids.{AreRows, IsGrid, length-wide, scalars-wide}

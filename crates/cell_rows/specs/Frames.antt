@@ -1,5 +1,5 @@
 -- An Element in a frame, place by place.
-use Rattle.std.specs.Prelude.{◌≡◌, ℕ, ◌-◌, ℤ, pos, negsuc, ◌-ℤ◌, if◌then◌else◌, nat_le, Option, Some, None, List, [], ◌∷◌, map, encode_utf8}
+use Rattle.std.specs.Prelude.{ℕ, ℤ, pos, negsuc, ◌-ℤ◌, Option, Some, None, List, map, encode_utf8}
 use Rattle.std.specs.List.{flat_map, range_with_len}
 use Rattle.elm_meaning.specs.Layout.{cell_at, row_at}
 use Rattle.cell_rows.specs.declared.frames.Margin.{Margin}

@@ -1,6 +1,6 @@
-use Rattle.std.proofs.Common.{◌≡◌, ◌∙◌, ap, sym, arith, ◌++◌, ◌∷◌, [], List, ℕ}
+use Rattle.std.proofs.Common.{◌∙◌, ap, sym, arith, ◌++◌, ◌∷◌, [], List, ℕ}
 use Rattle.std.proofs.lemmas.List.FromFn.{map-range_with_len_more}
-use Rattle.cell_rows.specs.Flows.{ordered, row_beside, rows_beside}
+use Rattle.cell_rows.specs.Flows.{ordered, row_beside}
 use Rattle.cell_rows.proofs.flows.beside.Goals as goal
 
 pub loop-y-preserved : goal.loop-y-preserved

@@ -1,4 +1,4 @@
-use Rattle.std.proofs.Common.{◌≡◌, ap, ◌∙◌, true, false}
+use Rattle.std.proofs.Common.{ap, ◌∙◌, true, false}
 use Rattle.cell_rows.specs.declared.types.Direction.{Direction}
 use Rattle.cell_rows.specs.Elements.{flow_grid}
 use Rattle.cell_rows.proofs.Lays.{up_is, left_is, high_enough, wide_enough, if_piled, if_lined}

@@ -1,5 +1,4 @@
-use Rattle.std.proofs.Common.{◌≡◌, ◌∙◌, ◌+◌, ap, sym, subst, refl, inl, inr, max, ⊎_elim, ℕ, List}
-use Rattle.cell_rows.specs.declared.types.Direction.TheVariants.{Up, Down, Left, Right}
+use Rattle.std.proofs.Common.{◌∙◌, ◌+◌, ap, max, ℕ}
 use Rattle.cell_rows.proofs.Replies.{grown_pile, grown_line}
 use Rattle.cell_rows.proofs.flows.grown.Goals as goal
 

@@ -1,5 +1,5 @@
-use Rattle.std.proofs.Common.{◌≡◌, ◌∙◌, ap, sym, subst, true, Some, None}
-use Rattle.std.specs.Str.{chars, is_utf8}
+use Rattle.std.proofs.Common.{◌≡◌, ◌∙◌, sym, subst, true}
+use Rattle.std.specs.Str.{is_utf8}
 use Rattle.cell_rows.proofs.Steps.{utf8_row, if_codes_there, no_codes_there}
 use Rattle.cell_rows.proofs.frames.codes_at.Goals as goal
 

@@ -1,8 +1,8 @@
-use Rattle.std.proofs.Common.{◌≡◌, ◌∙◌, ap, sym, arith, map, refl, pos, ◌-ℤ◌, ◌++◌, ◌∷◌, [], List, ℕ}
+use Rattle.std.proofs.Common.{◌≡◌, ◌∙◌, ap, sym, arith, map, pos, ◌-ℤ◌, ◌++◌, ◌∷◌, [], List, ℕ}
 use Rattle.std.specs.Str.{chars}
 use Rattle.std.proofs.lemmas.List.FromFn.{map-range_with_len_more}
 use Rattle.elm_meaning.specs.Layout.{row_at}
-use Rattle.cell_rows.specs.Frames.{margin_at, framed_row, frame_rows}
+use Rattle.cell_rows.specs.Frames.{margin_at, framed_row}
 use Rattle.cell_rows.proofs.frames.frame.Goals as goal
 
 pub loop-y-preserved : goal.loop-y-preserved

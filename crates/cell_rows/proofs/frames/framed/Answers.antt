@@ -1,7 +1,7 @@
-use Rattle.std.proofs.Common.{◌≡◌, ◌∙◌, ap, sym, arith, pos, ◌-ℤ◌, ◌++◌, List, ℕ}
+use Rattle.std.proofs.Common.{◌≡◌, ◌∙◌, ap, sym, pos, ◌-ℤ◌, ◌++◌, List, ℕ}
 use Rattle.std.specs.Char.{encode_utf8}
 use Rattle.elm_meaning.specs.Layout.{cell_at}
-use Rattle.cell_rows.specs.Frames.{margin_at, framed_row}
+use Rattle.cell_rows.specs.Frames.{margin_at}
 use Rattle.cell_rows.proofs.Framed.{framed-more}
 use Rattle.cell_rows.proofs.frames.framed.Goals as goal
 

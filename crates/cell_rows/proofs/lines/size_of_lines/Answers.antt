@@ -1,4 +1,4 @@
-use Rattle.std.proofs.Common.{◌∙◌, ◌≡◌, ◌+◌, max, ap, sym, subst, true, false, eqb, arith}
+use Rattle.std.proofs.Common.{◌∙◌}
 use Rattle.std.proofs.lemmas.Bool.{eq-eqb, ne_eqb}
 use Rattle.cell_rows.proofs.Steps.{after_newline, after_char, at_the_end}
 use Rattle.cell_rows.proofs.TextLines.{widest_is}
