@@ -31,19 +31,18 @@ fn put_thing(text: &mut String, thing: &Thing) -> Result<(), AllocError> {
 }
 
 /// Each name and what it stands for, `?` where that is nothing and `??` where it isn't one thing.
-pub fn show_uses(alloc: Global, uses: &[Use]) -> Result<String, AllocError> {
-    let mut text = String::new(alloc);
+fn put_uses(text: &mut String, uses: &[Use]) -> Result<(), AllocError> {
     for used in uses {
-        put_name(&mut text, &used.spot.name)?;
+        put_name(text, &used.spot.name)?;
         text.push_str("=")?;
         match &used.answer {
-            Answer::Stands { thing } => put_thing(&mut text, thing)?,
+            Answer::Stands { thing } => put_thing(text, thing)?,
             Answer::Unknown => text.push_str("?")?,
             Answer::Ambiguous => text.push_str("??")?,
         }
         text.push_str(" ")?;
     }
-    Ok(text)
+    Ok(())
 }
 
 fn kind_text(kind: FaultKind) -> &'static str {
@@ -57,15 +56,23 @@ fn kind_text(kind: FaultKind) -> &'static str {
 }
 
 /// Each fault with its line, its kind and its name.
-pub fn show_flaws(alloc: Global, flaws: &[Flaw]) -> Result<String, AllocError> {
-    let mut text = String::new(alloc);
+fn put_flaws(text: &mut String, flaws: &[Flaw]) -> Result<(), AllocError> {
     for flaw in flaws {
         let line = flaw.at.line;
         write!(text, "{line} ")?;
         text.push_str(kind_text(flaw.kind))?;
         text.push_str(" ")?;
-        put_name(&mut text, &flaw.name)?;
+        put_name(text, &flaw.name)?;
         text.push_str(";")?;
     }
+    Ok(())
+}
+
+/// The uses, and behind a bar the faults.
+pub fn show(alloc: Global, uses: &[Use], flaws: &[Flaw]) -> Result<String, AllocError> {
+    let mut text = String::new(alloc);
+    put_uses(&mut text, uses)?;
+    text.push_str("| ")?;
+    put_flaws(&mut text, flaws)?;
     Ok(text)
 }
