@@ -81,7 +81,12 @@ fn tree(alloc: Global, text: &str, declared: &[Declared]) -> Result<Expr, Halt<C
             operators.push(Operator { at, name })?;
         }
     }
-    chain(alloc, &levels(alloc, declared)?, operators.as_slice(), operands)
+    chain(
+        alloc,
+        &levels(alloc, declared)?,
+        operators.as_slice(),
+        operands,
+    )
 }
 
 /// The tree of the text, or `Clash`.
