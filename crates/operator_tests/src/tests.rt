@@ -42,7 +42,7 @@ fn put(out: &mut Vec<u8>, tree: &Expr) -> Result<(), AllocError> {
             left,
             right,
         } => {
-            out.push(b'0'.wrapping_add(at.column as u8))?;
+            out.push(b'0'.wrapping_add(u8::try_from(at.column).unwrap_or(0)))?;
             out.push(b'(')?;
             put(out, left.get())?;
             out.push(b' ')?;
