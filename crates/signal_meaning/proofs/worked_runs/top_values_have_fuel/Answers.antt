@@ -1,10 +1,10 @@
 use Rattle.std.proofs.Common.{refl}
-use Rattle.std.specs.Str.{chars}
+use Rattle.std.specs.Str.{chars, is_utf8}
 use Rattle.std.specs.Fmt.{digits}
 use lib.Utf8.{encode}
 use Rattle.elm_meaning.specs.Evaluation.{to_depth, evaluate, eval}
 use Rattle.signal_meaning.proofs.worked_runs.top_values_have_fuel.Goals as goal
 
 pub returns : goal.returns
-unfolding chars digits encode to_depth evaluate eval
+unfolding chars is_utf8 digits encode to_depth evaluate eval
 returns c = record { enough = refl; short = refl; nothing = refl; no_value = refl; library = refl }
