@@ -1,5 +1,0 @@
-pub mod Safe
-pub mod SafeEndings
-pub mod Settings
-pub mod TopValues
-pub mod Rewritings
