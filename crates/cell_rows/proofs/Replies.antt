@@ -1,24 +1,14 @@
 -- What the natives reply, as the rectangle that is laid out.
-use Rattle.std.proofs.Common.{◌≡◌, ℕ, ◌+◌, max, ℤ, pos, Bool, true, false, Option, Some, List, [], ◌∷◌, ◌++◌, map, reverse, refl, ap, ◌∙◌, arith, ◌⊎◌, ⊎_elim}
-use Rattle.std.specs.Str.{chars, is_utf8}
+use Rattle.std.proofs.Common.{◌≡◌, ℕ, ◌+◌, max, ℤ, pos, Option, Some, List, [], ◌∷◌, ◌++◌, map, reverse, refl, ap, ◌∙◌, arith, ◌⊎◌, ⊎_elim}
 use Rattle.std.proofs.lemmas.List.{map-append, reverse-append}
-use Rattle.elm_meaning.specs.Values.{Int, Text}
-use Rattle.elm_meaning.specs.Answers.{after}
-use Rattle.elm_meaning.specs.Texts.{where_text}
-use Rattle.elm_meaning.specs.Layout.{Grid, text, text_grid, flow, flow_of, container, framed, framed_at, edge, grids_of, with_grid, laid_out, all_above, all_beside}
+use Rattle.elm_meaning.specs.Values.{Int}
+use Rattle.elm_meaning.specs.Layout.{Grid, flow, flow_of, container, framed, framed_at, edge, grids_of, with_grid, laid_out, all_above, all_beside}
 use Rattle.cell_rows.specs.declared.types.Cells.{Cells}
 use Rattle.cell_rows.specs.declared.types.Size.{Size}
 use Rattle.cell_rows.specs.declared.types.Direction.{Direction}
 use Rattle.cell_rows.specs.declared.types.Direction.TheVariants.{Up, Down, Left, Right}
 use Rattle.cell_rows.specs.declared.types.Position.{Position}
 use Rattle.cell_rows.specs.Elements.{direction, direction_name, elements, element, grid, position, position_name, flow_grid, IsSizeOf}
-
-text_turn : (t : Bool) (g : Grid) (n : ℕ) → t ≡ true → (where_text t (after n (laid_out g))).answer ≡ laid_out g
-text_turn true g n h = refl
-text_turn false g n h = absurd (cc)
-
-pub text_answer : (bytes : List ℕ) → is_utf8 bytes ≡ true → (text (Text bytes ∷ [])).answer ≡ laid_out (text_grid (chars bytes))
-text_answer bytes h = text_turn (is_utf8 bytes) (text_grid (chars bytes)) _ h
 
 grids_of-elements : (items : List Cells) → grids_of (elements items) ≡ Some (map grid items)
 grids_of-elements [] = refl

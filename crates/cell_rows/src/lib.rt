@@ -9,6 +9,7 @@ mod lines;
 mod types;
 
 pub use blanks::spacer;
+pub use bytes::chars_of;
 pub use flows::{flow, grown};
 pub use frames::container;
 pub use lines::{text_cells, text_size};

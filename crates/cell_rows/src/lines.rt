@@ -1,7 +1,7 @@
 //! Texts as rows.
-ghost use Rattle.std.specs.Prelude.{◌≡◌, ◌≤◌, true, length, IfOk, [], ◌∷◌};
-ghost use Rattle.std.specs.Str.{chars, is_utf8};
+ghost use Rattle.std.specs.Prelude.{◌≡◌, ◌≤◌, length, IfOk, [], ◌∷◌};
 ghost use Rattle.elm_meaning.specs.Values.{Text};
+ghost use Rattle.elm_meaning.specs.Texts.{text_chars};
 ghost use Rattle.elm_meaning.specs.Layout.{text as text_native, text_grid, lines_of, widest, shown as shown_code};
 ghost use Rattle.cell_rows.specs.Elements.{IsSizeOf, IsWithin, LaysOut};
 ghost use Rattle.cell_rows.specs.Lines.{widest_from, rows_from, filled as filled_row};
@@ -12,19 +12,19 @@ use elm_base::{Name, NoMemory};
 use sqlite_items::Items;
 use std::alloc::Global;
 
-/// How large a text is as an Element: its lines, each as wide as the widest.
+/// How large a text is as an Element: its lines, each as wide as the widest. Bytes that aren't UTF-8 are read as
+/// the empty text.
 pub fn text_size(alloc: Global, text: &[u8]) -> Result<Size, NoMemory>
-    requires text { is_utf8 text.now ≡ true }
-    ensures { IfOk result (IsSizeOf (text_grid (chars text.now))) }
+    ensures { IfOk result (IsSizeOf (text_grid (text_chars text.now))) }
 {
     let codes = chars_of(alloc, text)?;
     Ok(size_of_lines(codes.as_slice()))
 }
 
 /// A text's lines as rows, each filled with spaces to the widest. A control char is shown as a question mark.
+/// Bytes that aren't UTF-8 are read as the empty text.
 pub fn text_cells(alloc: Global, text: &[u8]) -> Result<Cells, NoMemory>
-    requires text { is_utf8 text.now ≡ true }
-    requires within { IsWithin (text_grid (chars text.now)) }
+    requires within { IsWithin (text_grid (text_chars text.now)) }
     ensures { IfOk result (LaysOut (text_native (Text text.now ∷ []))) }
 {
     let codes = chars_of(alloc, text)?;

@@ -10,3 +10,4 @@ pub mod MoreTops
 pub mod Within
 pub mod Captured
 pub mod Spent
+pub mod Chars

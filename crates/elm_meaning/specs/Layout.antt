@@ -5,7 +5,7 @@ use Rattle.std.specs.Str.{chars, is_utf8, encode_utf8_all, bytes_eq}
 use Rattle.elm_base.specs.declared.term.RunFault.TheVariants.{ElementTooLarge}
 use Rattle.elm_meaning.specs.Values.{Value, Int, Text, Nil, Cons, Made, Cells, NoValues}
 use Rattle.elm_meaning.specs.Answers.{Answer, Gives, Faults, Reply, free, after, no_reply}
-use Rattle.elm_meaning.specs.Texts.{where_text}
+use Rattle.elm_meaning.specs.Texts.{text_chars}
 
 -- each row is a text of as many chars
 abbrev pub RowsHave : ℕ → List (List ℕ) → Type 0
@@ -139,8 +139,8 @@ size (negsuc n) = 0
 
 abbrev pub text : List Value → Reply
 text (Text bytes ∷ []) =
-    let g = text_grid (chars bytes) in
-    where_text (is_utf8 bytes) (after (length (chars bytes) + cell_count g) (laid_out g))
+    let cs = text_chars bytes in
+    let g = text_grid cs in after (length cs + cell_count g) (laid_out g)
 text _ = no_reply
 
 abbrev pub spacer : List Value → Reply

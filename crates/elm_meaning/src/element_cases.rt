@@ -10,6 +10,7 @@ ghost use Rattle.elm_meaning.specs.NativeTable.{reply};
 ghost use Rattle.elm_meaning.specs.Spelling.{int, minus, text, list, made, element};
 
 /// Rows split at newlines, each filled with spaces to the widest; other control chars are question marks.
+/// Bytes that aren't UTF-8 have no chars, as the empty text.
 pub fn texts_are_rows()
     ensures row { reply TEXT (text "ab" ∷ []) ≡ after 4 (Gives (element 2 1 ("ab" ∷ []))) }
     ensures rows { reply TEXT (text "a\nbcd\n" ∷ [])
@@ -19,7 +20,7 @@ pub fn texts_are_rows()
         ≡ after 8 (Gives (element 4 1 ("?? ?" ∷ []))) }
     ensures wide { reply TEXT (text "ä\u{80}" ∷ [])
         ≡ after 4 (Gives (element 2 1 ("ä\u{80}" ∷ []))) }
-    ensures no_text { reply TEXT (Text (195 ∷ []) ∷ []) ≡ no_reply }
+    ensures no_text { reply TEXT (Text (195 ∷ []) ∷ []) ≡ reply TEXT (text "" ∷ []) }
 {}
 
 /// Spaces of a size; a negative size is 0. More than 1,000 cells are too large, after the work.

@@ -117,7 +117,8 @@ pub fn chars_have_codes()
     ensures negative { reply CHAR_FROM_CODE (minus 1 ∷ []) ≡ free (Faults CharRange) }
 {}
 
-/// The natives on texts cost the chars of the text; `fromList` its elements.
+/// The natives on texts cost the chars of the text; `fromList` its elements. Bytes that aren't UTF-8 have no chars for
+/// `toList` and `reverse`, as the empty text.
 pub fn texts_are_lists_of_chars()
     ensures length { reply STRING_LENGTH (text "äb" ∷ []) ≡ after 2 (Gives (int 2)) }
     ensures reversed { reply STRING_REVERSE (text "äb" ∷ []) ≡ after 2 (Gives (text "bä")) }
@@ -125,8 +126,11 @@ pub fn texts_are_lists_of_chars()
         ≡ after 2 (Gives (list (char "ä" ∷ char "b" ∷ []))) }
     ensures text { reply STRING_FROM_LIST (list (char "ä" ∷ char "b" ∷ []) ∷ [])
         ≡ after 2 (Gives (text "äb")) }
-    ensures no_text { reply STRING_TO_LIST (Text (97 ∷ 195 ∷ []) ∷ []) ≡ no_reply }
-    ensures surrogate { reply STRING_REVERSE (Text (237 ∷ 160 ∷ 128 ∷ []) ∷ []) ≡ no_reply }
+    ensures empty { reply STRING_TO_LIST (text "" ∷ []) ≡ after 0 (Gives (list [])) }
+    ensures no_text { reply STRING_TO_LIST (Text (97 ∷ 195 ∷ []) ∷ [])
+        ≡ after 0 (Gives (list [])) }
+    ensures surrogate { reply STRING_REVERSE (Text (237 ∷ 160 ∷ 128 ∷ []) ∷ [])
+        ≡ after 0 (Gives (text "")) }
     ensures no_chars { reply STRING_FROM_LIST (list (char "a" ∷ int 1 ∷ []) ∷ [])
         ≡ after 2 Answer.NoRule }
 {}

@@ -6,16 +6,12 @@ use frame_text::{
     Cells, Direction, Position, Size, container, flow, grown, spacer, text_cells, text_size,
 };
 use std::alloc::Global;
-use std::str;
 use std::test::Fail;
 
 /// A text laid out, where that is within the limit.
 fn laid_out(alloc: Global, text: &[u8]) -> Result<Option<Cells>, NoMemory>
     ensures { IfOk result (λ cells. IfSome cells IsWhole) }
 {
-    let Ok(_) = str::from_utf8(text) else {
-        return Ok(None);
-    };
     let size = text_size(alloc, text)?;
     if size.width > 1000 || size.height > 1000 {
         return Ok(None);
@@ -61,6 +57,8 @@ fn texts_are_rows(rt: HostRuntime) -> Result<(), Fail> {
     assert!(rt; shows(&cells, &[b"a? ", b"bcd", b"   "]));
     let empty = laid_out(rt.alloc(), b"")?.ok_or("too large")?;
     assert_eq!(rt; (empty.width, empty.height), (0, 1));
+    let no_text = laid_out(rt.alloc(), b"a\xc3")?.ok_or("too large")?;
+    assert_eq!(rt; (no_text.width, no_text.height), (0, 1));
     Ok(())
 }
 

@@ -172,8 +172,10 @@ fn natives_on_other_values_are_planned(rt: HostRuntime) -> Result<(), Fail> {
     let broken = Node::Text(Name::of(alloc, b"a\xc3")?);
     let stopped = crashed(alloc, &broken)?.plan;
     assert!(rt; matches!(stopped, Plan::Fault(RunFault::Crash { text: _ })));
-    let no_chars = text_list(alloc, &broken)?.plan;
-    assert!(rt; matches!(no_chars, Plan::Fault(RunFault::Stuck)));
+    let no_chars = gives(alloc, text_list(alloc, &broken)?, b"[]", 10)?;
+    assert!(rt; no_chars);
+    let no_text = gives(alloc, text_reversed(alloc, &broken)?, b"\"\"", 10)?;
+    assert!(rt; no_text);
     Ok(())
 }
 

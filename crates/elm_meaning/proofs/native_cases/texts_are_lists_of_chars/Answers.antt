@@ -7,4 +7,4 @@ use Rattle.elm_meaning.proofs.native_cases.texts_are_lists_of_chars.Goals as goa
 
 pub returns : goal.returns
 unfolding chars is_utf8 digits encode to_depth evaluate eval
-returns c = record { length = refl; reversed = refl; chars = refl; text = refl; no_text = refl; surrogate = refl; no_chars = refl }
+returns c = record { length = refl; reversed = refl; chars = refl; text = refl; empty = refl; no_text = refl; surrogate = refl; no_chars = refl }

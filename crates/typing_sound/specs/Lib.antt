@@ -1,0 +1,5 @@
+pub mod Safe
+pub mod SafeEndings
+pub mod Settings
+pub mod TopValues
+pub mod Rewritings

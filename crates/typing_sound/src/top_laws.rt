@@ -1,0 +1,39 @@
+//! The values of a program's top level have the types of their names, group by group. The bodies are empty: what is
+//! stated holds of the definitions.
+
+ghost use Rattle.std.specs.Prelude.{◌≡◌, ℕ, List, [], ◌∷◌, ◌++◌, length, false};
+ghost use Rattle.elm_typing.specs.Ground.{Ground};
+ghost use Rattle.elm_meaning.specs.FreeNames.{is_among};
+ghost use Rattle.elm_meaning.specs.Values.{Value};
+ghost use Rattle.elm_meaning.specs.Progress.{Stage, State, Returns};
+ghost use Rattle.elm_meaning.specs.Evaluation.{eval};
+ghost use Rattle.typing_rules.specs.Core.{erased};
+ghost use Rattle.typing_rules.specs.TopGroups.{Definition, TopsHave};
+ghost use Rattle.typing_sound.specs.SafeEndings.{TopsTyped};
+ghost use Rattle.typing_sound.specs.Settings.{Setting, before_nodes, world_of};
+ghost use Rattle.typing_sound.specs.TopValues.{tops_in, GroupsAreBelow, AreNumbered, AreFunctions, with_one_more};
+
+/// Before the first group there are no top values.
+pub fn the_first_group_needs_no_values()
+    ensures { (p : Setting) (stage : Stage) → p.groups ≡ [] → TopsTyped (world_of p) stage [] }
+{}
+
+/// A definition that doesn't refer to itself gives a value with all types of its name, behind the values before it.
+pub fn a_value_joins_the_top_values()
+    ensures { (p : Setting) (d : Definition) (tops : List Value) (stage : Stage) (fuel : ℕ)
+        (v : Value) (s : State)
+        (types : List Ground) →
+        GroupsAreBelow (length tops) p.groups → d.top ≡ length tops →
+        is_among d.top (tops_in d.body) ≡ false →
+        TopsTyped (world_of p) stage tops → TopsHave (before_nodes p) (d ∷ []) types →
+        eval tops stage (erased d.body) fuel ≡ Returns v s →
+        TopsTyped (world_of (with_one_more (d ∷ []) p)) s.stage (tops ++ v ∷ []) }
+{}
+
+/// Functions that may refer to each other have all types of their names, and are made without a node.
+pub fn functions_join_the_top_values()
+    ensures { (p : Setting) (ds : List Definition) (tops vs : List Value) (stage : Stage) →
+        GroupsAreBelow (length tops) p.groups → AreNumbered (length tops) ds →
+        TopsTyped (world_of p) stage tops → AreFunctions tops stage ds vs →
+        TopsTyped (world_of (with_one_more ds p)) stage (tops ++ vs) }
+{}
