@@ -22,5 +22,7 @@ pub use naming_cases::{
     groups_stand_in_order, lists_are_nested, places_are_looked_up, uses_are_what_they_stand_for,
 };
 pub use numbering_cases::{binders_are_numbered_by_place, places_are_ordered};
-pub use numbering_laws::{binders_stand_in_parts, names_of_patterns_are_binders};
+pub use numbering_laws::{
+    binders_stand_in_parts, different_binders_have_different_numbers, names_of_patterns_are_binders,
+};
 pub use patterns_laws::patterns_stand_form_by_form;

@@ -1,6 +1,7 @@
 //! The binders of each form of tree. The bodies are empty: what is stated holds of the definitions.
 
-ghost use Rattle.std.specs.Prelude.{◌≡◌, ℕ, List, map};
+ghost use Rattle.std.specs.Prelude.{◌≡◌, ◌<◌, ℕ, List, map};
+ghost use Rattle.std.specs.List.{Contains};
 ghost use Rattle.elm_base.specs.declared.token.At.{At};
 ghost use Rattle.elm_base.specs.declared.tree.Operator.{Operator};
 ghost use Rattle.elm_base.specs.declared.tree.Spot.{Spot};
@@ -11,7 +12,7 @@ ghost use Rattle.elm_base.specs.declared.tree.Expr.TheVariants as e;
 ghost use Rattle.elm_base.specs.declared.tree.Declaration.{Declaration};
 ghost use Rattle.elm_base.specs.declared.tree.Declaration.TheVariants as d;
 ghost use Rattle.plain_form.specs.Naming.{Naming};
-ghost use Rattle.plain_form.specs.Numbering.{no_binders, one, further, both, all, pattern_binders, use_binders, binders_of, definition_binders};
+ghost use Rattle.plain_form.specs.Numbering.{Binders, no_binders, one, further, both, all, pattern_binders, use_binders, binders_of, definition_binders, numbered};
 
 /// The binders that stand in an expression, and those that its field functions, tuple makers and makers want.
 pub fn binders_stand_in_parts()
@@ -86,4 +87,15 @@ pub fn names_of_patterns_are_binders()
         ≡ pattern_binders inner }
     ensures named { (at : At) (inner : Pattern) (name : Spot) → pattern_binders
         (p.Named at inner name) ≡ both (pattern_binders inner) (one name.at) }
+{}
+
+/// Different binders have different numbers. So have those that forms want of their own, which come behind all others.
+pub fn different_binders_have_different_numbers()
+    ensures binders { (n : Naming) (b : Binders) (x y : At) → Contains b.places x → Contains
+        b.places y → (numbered n b).number x ≡ (numbered n b).number y → x ≡ y }
+    ensures further { (n : Naming) (b : Binders) (x y : At) (i j k m : ℕ) → Contains b.own (x, k)
+        → Contains b.own (y, m) → i < k → j < m →
+        (numbered n b).own x i ≡ (numbered n b).own y j → (x ≡ y) × (i ≡ j) }
+    ensures behind { (n : Naming) (b : Binders) (x y : At) (i : ℕ) → Contains b.places x →
+        (numbered n b).number x < (numbered n b).own y i }
 {}

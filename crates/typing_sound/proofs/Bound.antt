@@ -23,6 +23,7 @@ use Rattle.typing_rules.specs.CorePatterns.{core_pattern, core_patterns, Fits, A
 use Rattle.typing_rules.specs.Worlds.{Types, Surroundings, no_surroundings, exactly, Either, with_name, Bound, with_bound, World}
 use Rattle.typing_rules.specs.Rules.{Typings, type_at, under_work, GivenBy, generalised}
 use Rattle.typing_rules.specs.TermTypes.{ValueHas, ValuesHave, FieldsHave, AreTaken, GroupHas}
+use Rattle.typing_sound.specs.SafeEndings.{BindsTyped}
 use Rattle.typing_sound.proofs.Combine.{Sub, Within, name_more, given_more}
 use Rattle.typing_sound.proofs.Filled.{Paired}
 
@@ -40,9 +41,7 @@ some_is a b e = cc
 
 module _ (w : World) where
   abbrev pub BindsHave : Bindings → Bound → Type 0
-  BindsHave [] [] = Unit {0}
-  BindsHave (b ∷ bs) (t ∷ ts) = (b.0 ≡ t.0) × ValueHas w b.1 t.1 × BindsHave bs ts
-  BindsHave _ _ = ⊥
+  BindsHave bs ts = BindsTyped w bs ts
 
   abbrev pub MatchHas : Option Bindings → Bound → Type 0
   MatchHas None ts = Unit {0}

@@ -16,3 +16,4 @@ pub mod TopsUsed
 pub mod TopsAdded
 pub mod Rewritten
 pub mod Laws
+pub mod Makers

@@ -1,12 +1,13 @@
 -- What it is for an evaluation to be safe: it gives a value of the term's type, or ends in a fault.
-use Rattle.std.specs.Prelude.{◌≡◌, ℕ, Option, Some, None, List, ◌++◌, slice_get}
+use Rattle.std.specs.Prelude.{◌≡◌, ℕ, Option, Some, None, List, [], ◌∷◌, ◌++◌, slice_get}
 use Rattle.elm_typing.specs.Ground.{Ground}
 use Rattle.elm_typing.specs.Sorts.{Simple, Signal, sort_of}
 use Rattle.elm_meaning.specs.Values.{Value}
+use Rattle.elm_meaning.specs.Matching.{Bindings}
 use Rattle.elm_meaning.specs.Substitution.{Names}
 use Rattle.elm_meaning.specs.Equations.{Equation}
 use Rattle.elm_meaning.specs.Progress.{Stage, Ending, Returns, Stops, NoRule}
-use Rattle.typing_rules.specs.Worlds.{Surroundings, World, with_nodes}
+use Rattle.typing_rules.specs.Worlds.{Surroundings, Bound, World, with_nodes}
 use Rattle.typing_rules.specs.TermTypes.{ValueHas}
 use Rattle.typing_rules.specs.Nodes.{at_equations, AreWellTyped}
 
@@ -37,6 +38,12 @@ pub record TopsTyped (w : World) (stage : Stage) (tops : List Value) : Type 0 wh
 abbrev pub FillsAt : World → Option Value → Type 0 → Ground → Type 0
 FillsAt w (Some v) left t = ValueHas w v t
 FillsAt w None left t = left
+
+-- what a pattern bound has, name by name, these types
+abbrev pub BindsTyped : World → Bindings → Bound → Type 0
+BindsTyped w [] [] = Unit {0}
+BindsTyped w (b ∷ bs) (t ∷ ts) = (b.0 ≡ t.0) × ValueHas w b.1 t.1 × BindsTyped w bs ts
+BindsTyped w _ _ = ⊥
 
 -- values for some of the names in the first surroundings leave a term in the second
 pub record Fills (w : World) (s : Surroundings) (σ : Names) (r : Surroundings) : Type 0 where

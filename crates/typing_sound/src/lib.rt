@@ -4,6 +4,7 @@
 
 mod erasing_laws;
 mod native_laws;
+mod pattern_laws;
 mod rewriting_laws;
 mod soundness_laws;
 mod surroundings_laws;
@@ -11,7 +12,11 @@ mod top_laws;
 
 pub use erasing_laws::erasing_keeps_types;
 pub use native_laws::natives_are_safe;
-pub use rewriting_laws::{field_functions_take_records, pair_makers_take_the_parts_in_turn};
+pub use pattern_laws::patterns_bind_typed_values;
+pub use rewriting_laws::{
+    alias_makers_have_the_instances_of_their_types, field_functions_take_records,
+    tuple_makers_take_the_parts_in_turn,
+};
 pub use soundness_laws::{
     equations_are_well_typed_in_order, simple_terms_make_no_node,
     values_have_the_types_of_their_terms, well_typed_calls_are_safe, well_typed_terms_are_safe,
