@@ -2,28 +2,27 @@
 use Rattle.std.proofs.Common.{◌≡◌, ℕ, zero, suc, ◌<◌, ◌==◌, Bool, true, false, Option, Some, None, List, [], ◌∷◌, length, refl, sym, ap, ◌∙◌, subst, arith}
 use Rattle.std.specs.Prelude.{codes, slice_get, if◌then◌else◌}
 use Rattle.std.specs.Str.{bytes_eq}
-use Rattle.std.proofs.lemmas.Bool.{eqb-true, eqb-false}
+use Rattle.std.proofs.lemmas.Bool.{eqb-true}
 use Rattle.elm_base.specs.declared.term.Literal.{Literal as TermLiteral}
 use Rattle.elm_base.specs.declared.term.Literal.TheVariants as literal
 use Rattle.elm_typing.specs.Ground.{Ground, Grounds, Row, NoGrounds, AndGround}
 use Rattle.elm_meaning.specs.declared.callee.Callee.TheVariants as callee
-use Rattle.elm_meaning.specs.Values.{Value, NoValues, Made, Applicable, Partial, Tree, Done}
+use Rattle.elm_meaning.specs.Values.{NoValues, Made, Applicable, Partial, Done}
 use Rattle.elm_meaning.specs.FreeNames.{function_names}
 use Rattle.elm_meaning.specs.NativeTable.{Native, IsValue, Replies, MakesNode, native_at, takes_of, natives}
 use Rattle.elm_meaning.specs.Terms.{literal_value, native_tree, constructor_value}
 use Rattle.typing_rules.specs.WrittenTypes.{Written}
 use Rattle.typing_rules.specs.Unions.{Union, Makes, UnionGives, GivesWhere, ConstructorGives}
-use Rattle.typing_rules.specs.Library.{signature_of, signatures}
+use Rattle.typing_rules.specs.Library.{signatures}
 use Rattle.typing_rules.specs.CorePatterns.{CorePattern, CorePatterns, NoCorePatterns, AndCorePattern, erased_pattern, erased_patterns, core_pattern, core_patterns, literal_type, Fits, AllFit}
-use Rattle.typing_rules.specs.Worlds.{Types, Surroundings, with_name, with_bound, Bound, World, IsProper}
-use Rattle.typing_rules.specs.Rules.{Inside, Well, Branch, Abstracted, Defined, NamedValue, TakenApart, Group, Grouped, Together, under_work, generalised, NativeGives}
-use Rattle.typing_rules.specs.TermTypes.{ValueHas, TermHas, AllHave, EachHas, GuardsHave, BranchesHave, FieldsOver, NewestAre, EachFunctionHas, GroupHas}
+use Rattle.typing_rules.specs.Worlds.{Surroundings, with_name, with_bound, Bound, World, IsProper}
+use Rattle.typing_rules.specs.Rules.{Inside, Well, Branch, Abstracted, Defined, TakenApart, Grouped, Together, NativeGives}
+use Rattle.typing_rules.specs.TermTypes.{ValueHas, TermHas, AllHave, EachHas, GuardsHave, BranchesHave, FieldsOver, NewestAre, EachFunctionHas}
 use Rattle.typing_rules.specs.Core.{Core, Cores, CoreFields, CoreGuards, CoreBranches, CoreGroup, Local, Top, Input, Literal, Native as NativeOf, Constructor, Held, Lambda, Call, If, Guards, Case, LetValue, LetFunctions, Tuple, ListOf, Range, Fields, Update, Extend, Remove, Field, NoCores, AndCore, NoCoreFields, AndCoreField, NoCoreGuards, AndCoreGuard, NoCoreBranches, AndCoreBranch, NoCoreFunctions, AndCoreFunction, erased, erased_all, erased_fields, erased_guards, erased_branches, erased_group}
 use Rattle.typing_rules.specs.CoreTypes.{names_in, CoreHas, AllCoresHave, EachIs, CoreGuardsHave, CoreBranchesHave, CoreFieldsOver, CoreNewestAre, EachCoreHas}
-use Rattle.typing_sound.specs.Safe.{HasLibrary, IsSafeNative}
-use Rattle.typing_sound.proofs.Combine.{Sub, Within, same, same_within, name_more, bound_more, work_more, generalised_more, same_world, stands_more, well_more, called_more, chosen_more, cased_more, of_parts_more, and_part_more, listed_more, ranged_more, SubOver, field_over_more, of_fields_more, extended_more, newest_is_more, updated_more, removed_more, field_of_more, all_stand_more}
+use Rattle.typing_sound.specs.Safe.{HasLibrary}
+use Rattle.typing_sound.proofs.Combine.{Sub, Within, name_more, bound_more, work_more, generalised_more, same_world, well_more, called_more, chosen_more, cased_more, of_parts_more, and_part_more, listed_more, ranged_more, SubOver, field_over_more, of_fields_more, extended_more, newest_is_more, updated_more, removed_more, field_of_more}
 use Rattle.typing_sound.proofs.Natives.{safe_native}
-use Rattle.typing_sound.proofs.Functions.{arity_of}
 
 -- patterns
 

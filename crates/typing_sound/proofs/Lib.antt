@@ -17,3 +17,4 @@ pub mod TopsAdded
 pub mod Rewritten
 pub mod Laws
 pub mod Makers
+pub mod Started

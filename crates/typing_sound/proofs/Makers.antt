@@ -2,7 +2,7 @@
 use Rattle.std.proofs.Common.{◌≡◌, ℕ, zero, suc, ◌<◌, ◌==◌, Bool, true, false, None, List, [], ◌∷◌, refl, sym, ap, ap₂, ◌∙◌, subst, arith}
 use Rattle.std.proofs.lemmas.Bool.{eqb-true, eq-eqb}
 use Rattle.elm_base.specs.declared.token.At.{At}
-use Rattle.elm_typing.specs.Ground.{Ground, Grounds, Row, NoGrounds, AndGround, Ends}
+use Rattle.elm_typing.specs.Ground.{Ground, Grounds, NoGrounds, AndGround, Ends}
 use Rattle.typing_rules.specs.Unions.{arrows, count_of}
 use Rattle.typing_rules.specs.WrittenTypes.{Written, WrittenFields, Fields, NoWrittenFields, AndWrittenField, Choice, instance_at, fields_at, IsInstance}
 use Rattle.typing_rules.specs.Worlds.{Surroundings, exactly, Either, with_name, Bound, with_bound, World, IsProper}

@@ -96,11 +96,15 @@ module _ (w : World) where
       subst (λ z. Sub ((at_equations qs w).nodes n) (z.nodes n)) (sym (equations_append 0 qs more (without_nodes w)))
       ((equations_add (0 + length qs) more (at_equations qs w) (equations_bounded 0 qs (without_nodes w) none_bounded)).nodes n)
 
+  -- equations that come behind leave the world a greater one
+  pub behind_below : (qs more : List Equation) (r : Stage) → r ≡ Some (qs ++ more) → Below (at_stage (Some qs) w) (at_stage r w)
+  behind_below qs more r e =
+      subst (λ z. Below (at_stage (Some qs) w) (at_stage z w)) (sym e)
+      (record { alike = record { sorts = refl; unions = refl; inputs = refl }; tops = λ n. same (w.tops n); nodes = more_nodes qs more })
+
   pub stages_below : (q r : Stage) → Grows w q r → Below (at_stage q w) (at_stage r w)
   stages_below None r g = subst (λ z. Below w (at_stage z w)) (sym g) (record { alike = same_world w; tops = λ n. same (w.tops n); nodes = λ n. same (w.nodes n) })
-  stages_below (Some qs) r g =
-      subst (λ z. Below (at_stage (Some qs) w) (at_stage z w)) (sym g.1)
-      (record { alike = record { sorts = refl; unions = refl; inputs = refl }; tops = λ n. same (w.tops n); nodes = more_nodes qs g.0 })
+  stages_below (Some qs) r g = behind_below qs g.0 r g.1
 
   -- a value stays typed
   pub value_later : (q r : Stage) (v : Value) (t : Ground) → Grows w q r → ValueHas (at_stage q w) v t → ValueHas (at_stage r w) v t

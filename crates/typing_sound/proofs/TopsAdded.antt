@@ -1,7 +1,7 @@
 -- A group's values join the top values, each with the types of its name.
-use Rattle.std.proofs.Common.{◌≡◌, ℕ, zero, suc, ◌<◌, ◌≤◌, ◌+◌, ◌==◌, ◌||◌, ◌⊎◌, inl, inr, Bool, true, false, Option, Some, None, List, [], ◌∷◌, ◌++◌, length, map, refl, sym, ap, ◌∙◌, subst, arith}
+use Rattle.std.proofs.Common.{◌≡◌, ℕ, zero, suc, ◌<◌, ◌+◌, ◌==◌, ◌||◌, ◌⊎◌, inl, inr, Bool, true, false, Option, Some, None, List, [], ◌∷◌, ◌++◌, length, refl, sym, ap, ◌∙◌, subst, arith}
 use Rattle.std.specs.Prelude.{slice_get}
-use Rattle.std.proofs.lemmas.Bool.{eqb-true, eq-eqb}
+use Rattle.std.proofs.lemmas.Bool.{eqb-true}
 use Rattle.elm_meaning.specs.declared.callee.Callee.TheVariants as callee
 use Rattle.elm_typing.specs.Ground.{Ground}
 use Rattle.elm_typing.specs.Names.{signal_of}
@@ -11,7 +11,7 @@ use Rattle.elm_meaning.specs.Values.{Value, Applicable, Closure, Tree, Lambda}
 use Rattle.elm_meaning.specs.Matching.{names_of}
 use Rattle.elm_meaning.specs.Substitution.{no_names, hide_all, fill}
 use Rattle.elm_meaning.specs.Equations.{Equation}
-use Rattle.elm_meaning.specs.Progress.{Stage, State, Ending, Returns}
+use Rattle.elm_meaning.specs.Progress.{Stage, State, Returns}
 use Rattle.elm_meaning.specs.Evaluation.{to_depth, evaluate, begun, eval}
 use Rattle.typing_rules.specs.Unions.{Union}
 use Rattle.typing_rules.specs.Library.{library_unions}
@@ -22,16 +22,16 @@ use Rattle.typing_rules.specs.Core.{erased}
 use Rattle.typing_rules.specs.TermTypes.{TermHas, ValueHas}
 use Rattle.typing_rules.specs.Nodes.{NativeCall, CallGives, call_of, EquationHas, with_node, with_equations, without_nodes, at_equations}
 use Rattle.typing_rules.specs.TopGroups.{Definition, Tops, no_tops, world_with, tops_of, DefinitionsHave, TopsHave, with_group, after_groups}
-use Rattle.typing_sound.specs.SafeEndings.{at_stage, Grows, IsSafe, TopsTyped}
+use Rattle.typing_sound.specs.SafeEndings.{at_stage, IsSafe, TopsTyped}
 use Rattle.typing_sound.specs.Settings.{Setting, before_nodes, world_of}
 use Rattle.typing_sound.specs.TopValues.{tops_in, AreBelow, GroupsAreBelow, AreNumbered, GivesFunction, AreFunctions, with_one_more}
-use Rattle.typing_sound.proofs.Combine.{Sub, Within, same, same_within, name_more, Alike}
+use Rattle.typing_sound.proofs.Combine.{Sub, Within, same_within, name_more, Alike}
 use Rattle.typing_sound.proofs.Monotone.{Below, callee_more, taken_more, value_more}
 use Rattle.typing_sound.proofs.Filled.{Paired, term_filled}
 use Rattle.typing_sound.proofs.Bound.{work_given}
-use Rattle.typing_sound.proofs.Stages.{value_later}
+use Rattle.typing_sound.proofs.Stages.{stages_below}
 use Rattle.typing_sound.proofs.Erased.{core_erased}
-use Rattle.typing_sound.proofs.TopsUsed.{TopsOn, core_tops}
+use Rattle.typing_sound.proofs.TopsUsed.{core_tops}
 use Rattle.typing_sound.proofs.Sound.{library_at}
 use Rattle.typing_sound.proofs.Laws.{library, term_safe_in}
 
@@ -41,7 +41,7 @@ calls_more : (v w : World) → Below v w → (c : Option NativeCall) → Sub (Ca
 calls_more v w b None t h = h
 calls_more v w b (Some c) t h = (h.0, callee_more v w b (callee.Native c.0) h.0 h.1, taken_more v w b c.1 no_surroundings h.0 t h.2)
 
-equation_more : (v w : World) → Below v w → (q : Equation) → Sub (EquationHas v q) (EquationHas w q)
+pub equation_more : (v w : World) → Below v w → (q : Equation) → Sub (EquationHas v q) (EquationHas w q)
 equation_more v w b (Equation.Input n) t h = subst (λ z. slice_get z n ≡ Some t) b.alike.inputs h
 equation_more v w b (Equation.Constant x) t h = calls_more v w b (call_of (Equation.Constant x)) (signal_of t) h
 equation_more v w b (Equation.Map f ns) t h = calls_more v w b (call_of (Equation.Map f ns)) (signal_of t) h
@@ -53,7 +53,7 @@ equation_more v w b (Equation.DropRepeats n) t h = calls_more v w b (call_of (Eq
 equation_more v w b (Equation.SampleOn m n) t h = calls_more v w b (call_of (Equation.SampleOn m n)) (signal_of t) h
 equation_more v w b (Equation.Async n) t h = calls_more v w b (call_of (Equation.Async n)) (signal_of t) h
 
-node_below : (k : ℕ) (q : Equation) (v w : World) → Below v w → Below (with_node k q v) (with_node k q w)
+pub node_below : (k : ℕ) (q : Equation) (v w : World) → Below v w → Below (with_node k q v) (with_node k q w)
 node_below k q v w b = record {
   alike = record { sorts = b.alike.sorts; unions = b.alike.unions; inputs = b.alike.inputs };
   tops = b.tops;
@@ -77,7 +77,7 @@ stage_world (Some qs) v w b = record {
   nodes = (at_equations_below qs v w b).nodes;
 }
 
-setting_below : (p r : Setting) → p.equations ≡ r.equations → Below (before_nodes p) (before_nodes r) → Below (world_of p) (world_of r)
+pub setting_below : (p r : Setting) → p.equations ≡ r.equations → Below (before_nodes p) (before_nodes r) → Below (world_of p) (world_of r)
 setting_below p r e b = record {
   alike = record { sorts = b.alike.sorts; unions = b.alike.unions; inputs = b.alike.inputs };
   tops = b.tops;
@@ -139,7 +139,7 @@ groups_below us is sorts (g ∷ gs) k tops f b n t h =
     either m u (inl e) = among_below k g m b.0 e
     either m u (inr e) = f m u e
 
-after_append : (us : List Union) (is : List Ground) (gs : List (List Definition)) (g : List Definition) (tops : Tops) → after_groups us is (gs ++ g ∷ []) tops ≡ with_group us is g (after_groups us is gs tops)
+pub after_append : (us : List Union) (is : List Ground) (gs : List (List Definition)) (g : List Definition) (tops : Tops) → after_groups us is (gs ++ g ∷ []) tops ≡ with_group us is g (after_groups us is gs tops)
 after_append us is [] g tops = refl
 after_append us is (h ∷ gs) g tops = after_append us is gs g (with_group us is h tops)
 
@@ -174,7 +174,7 @@ module _ (p : Setting) where
   fresh : (k n : ℕ) (t : Ground) → GroupsAreBelow k p.groups → before.tops n t → n < k
   fresh k n t b h = groups_below (library_unions ++ p.own) p.inputs p.sorts p.groups k no_tops (λ m u e. absurd e) b n t h
 
-  one_more_below : (k : ℕ) (g : List Definition) → GroupsAreBelow k p.groups → AreNumbered k g → Below before (before_nodes (with_one_more g p))
+  pub one_more_below : (k : ℕ) (g : List Definition) → GroupsAreBelow k p.groups → AreNumbered k g → Below before (before_nodes (with_one_more g p))
   one_more_below k g b d = record {
     alike = record { sorts = refl; unions = refl; inputs = refl };
     tops = λ n t h. from_given g n t (outside_given (tops_of g) 0 (TopsHave before g) before.tops n t (numbered_above k g n d (fresh k n t b h)) h);
@@ -198,7 +198,7 @@ module _ (p : Setting) where
   other_tops true x n xs P Q e f g h = absurd (let i = ap (λ z. is_among z xs) (eqb-true x n e) in let j : true ≡ false = sym g ∙ (sym i ∙ f) in cc)
   other_tops false x n xs P Q e f g h = h
 
-  body_has : (d : Definition) (q : Stage) (types : List Ground) (t : Ground) → is_among d.top (tops_in d.body) ≡ false → TopsHave before (d ∷ []) types → type_at types 0 ≡ Some t → TermHas (at_stage q (world_of p)) no_surroundings (erased d.body) t
+  pub body_has : (d : Definition) (q : Stage) (types : List Ground) (t : Ground) → is_among d.top (tops_in d.body) ≡ false → TopsHave before (d ∷ []) types → type_at types 0 ≡ Some t → TermHas (at_stage q (world_of p)) no_surroundings (erased d.body) t
   body_has d q [] t f h e = absurd h
   body_has d q (u ∷ y ∷ ys) t f h e = absurd h.2
   body_has d q (u ∷ []) t f h e =
@@ -208,18 +208,20 @@ module _ (p : Setting) where
       (record { at = λ n g z k. tops_here q n z (other_tops (d.top == n) d.top n (tops_in d.body) (z ≡ u) (before.tops n z) refl f g k) })
       (same_within no_surroundings) t (subst (CoreHas (with_tops (with_name d.top (exactly u) before.tops) before) no_surroundings d.body) i h.0))
 
-  first_type : (d : Definition) (types : List Ground) → TopsHave before (d ∷ []) types → (t : Ground) × (type_at types 0 ≡ Some t)
+  pub first_type : (d : Definition) (types : List Ground) → TopsHave before (d ∷ []) types → (t : Ground) × (type_at types 0 ≡ Some t)
   first_type d [] h = absurd h
   first_type d (u ∷ us) h = (u, refl)
 
-  pub value_joins : (d : Definition) (tops : List Value) (stage : Stage) (fuel : ℕ) (v : Value) (s : State) (types : List Ground) → GroupsAreBelow (length tops) p.groups → d.top ≡ length tops → is_among d.top (tops_in d.body) ≡ false → TopsTyped (world_of p) stage tops → TopsHave before (d ∷ []) types → eval tops stage (erased d.body) fuel ≡ Returns v s → TopsTyped (world_of (with_one_more (d ∷ []) p)) s.stage (tops ++ v ∷ [])
-  value_joins d tops stage fuel v s types b k f T h e = record { at = λ n t g. by_number (d.top == n) n t refl (to_given (d ∷ []) n t g) }
+  -- the evaluation of a definition that doesn't refer to itself
+  pub body_safe : (d : Definition) (tops : List Value) (stage : Stage) (fuel : ℕ) (ts : List Ground) (t : Ground) → is_among d.top (tops_in d.body) ≡ false → TopsTyped (world_of p) stage tops → TopsHave before (d ∷ []) ts → type_at ts 0 ≡ Some t → IsSafe (world_of p) stage t (eval tops stage (erased d.body) fuel)
+  body_safe d tops stage fuel ts t f T i j = term_safe_in p tops stage (erased d.body) t fuel T (body_has d stage ts t f i j)
+
+  -- whether or not it has a type with these sorts
+  pub value_joins_behind : (d : Definition) (tops : List Value) (stage : Stage) (fuel : ℕ) (v : Value) (s : State) → GroupsAreBelow (length tops) p.groups → d.top ≡ length tops → is_among d.top (tops_in d.body) ≡ false → TopsTyped (world_of p) stage tops → Below (at_stage stage (world_of p)) (at_stage s.stage (world_of p)) → eval tops stage (erased d.body) fuel ≡ Returns v s → TopsTyped (world_of (with_one_more (d ∷ []) p)) s.stage (tops ++ v ∷ [])
+  value_joins_behind d tops stage fuel v s b k f T later e = record { at = λ n t g. by_number (d.top == n) n t refl (to_given (d ∷ []) n t g) }
     where
       safe : (ts : List Ground) (t : Ground) → TopsHave before (d ∷ []) ts → type_at ts 0 ≡ Some t → IsSafe (world_of p) stage t (Returns v s)
-      safe ts t i j = subst (IsSafe (world_of p) stage t) e (term_safe_in p tops stage (erased d.body) t fuel T (body_has d stage ts t f i j))
-
-      grows : Grows (world_of p) stage s.stage
-      grows = (let u = first_type d types h in (safe types u.0 h u.1).0)
+      safe ts t i j = subst (IsSafe (world_of p) stage t) e (body_safe d tops stage fuel ts t f T i j)
 
       greater : Below (at_stage s.stage (world_of p)) (at_stage s.stage (world_of (with_one_more (d ∷ []) p)))
       greater = more_below (length tops) (d ∷ []) s.stage b (k, tt)
@@ -233,7 +235,13 @@ module _ (p : Setting) where
           (v, subst (λ z. slice_get (tops ++ v ∷ []) z ≡ Some v) j here, value_more (at_stage s.stage (world_of p)) (at_stage s.stage (world_of (with_one_more (d ∷ []) p))) greater v no_surroundings t (safe g.0 t g.1 g.2).1)
       by_number false n t i g =
           let o = T.at n t g in
-          (o.0, there_before tops (v ∷ []) n o.0 o.1, value_more (at_stage s.stage (world_of p)) (at_stage s.stage (world_of (with_one_more (d ∷ []) p))) greater o.0 no_surroundings t (value_later (world_of p) stage s.stage o.0 t grows o.2))
+          (o.0, there_before tops (v ∷ []) n o.0 o.1, value_more (at_stage s.stage (world_of p)) (at_stage s.stage (world_of (with_one_more (d ∷ []) p))) greater o.0 no_surroundings t (value_more (at_stage stage (world_of p)) (at_stage s.stage (world_of p)) later o.0 no_surroundings t o.2))
+
+  pub value_joins : (d : Definition) (tops : List Value) (stage : Stage) (fuel : ℕ) (v : Value) (s : State) (types : List Ground) → GroupsAreBelow (length tops) p.groups → d.top ≡ length tops → is_among d.top (tops_in d.body) ≡ false → TopsTyped (world_of p) stage tops → TopsHave before (d ∷ []) types → eval tops stage (erased d.body) fuel ≡ Returns v s → TopsTyped (world_of (with_one_more (d ∷ []) p)) s.stage (tops ++ v ∷ [])
+  value_joins d tops stage fuel v s types b k f T h e =
+      let u = first_type d types h in
+      let g = subst (IsSafe (world_of p) stage u.0) e (body_safe d tops stage fuel types u.0 f T h u.1) in
+      value_joins_behind d tops stage fuel v s b k f T (stages_below (world_of p) stage s.stage g.0) e
 
   -- functions
 

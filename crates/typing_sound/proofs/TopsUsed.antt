@@ -1,5 +1,5 @@
 -- What a tree's types are depends only on the top values that it refers to.
-use Rattle.std.proofs.Common.{◌≡◌, ℕ, true, Option, Some, None, List, [], ◌∷◌, ◌++◌, subst}
+use Rattle.std.proofs.Common.{◌≡◌, ℕ, true, Some, List, [], ◌∷◌, ◌++◌, subst}
 use Rattle.elm_typing.specs.Ground.{Ground, Grounds, Row}
 use Rattle.elm_meaning.specs.FreeNames.{is_among}
 use Rattle.typing_rules.specs.Unions.{ConstructorGives}

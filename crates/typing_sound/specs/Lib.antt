@@ -3,3 +3,4 @@ pub mod SafeEndings
 pub mod Settings
 pub mod TopValues
 pub mod Rewritings
+pub mod Programs

@@ -1,5 +1,5 @@
 -- How the values of a program's top level come one after the other.
-use Rattle.std.specs.Prelude.{◌≡◌, ◌<◌, ℕ, suc, Option, List, [], ◌∷◌, ◌++◌}
+use Rattle.std.specs.Prelude.{◌≡◌, ◌<◌, ℕ, suc, List, [], ◌∷◌, ◌++◌}
 use Rattle.elm_meaning.specs.Values.{Value, Tree, Lambda}
 use Rattle.elm_meaning.specs.Progress.{Stage, State, Returns}
 use Rattle.elm_meaning.specs.Evaluation.{eval}

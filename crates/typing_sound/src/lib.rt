@@ -26,5 +26,6 @@ pub use surroundings_laws::{
     more_surroundings_type_no_less, only_used_names_matter, substitution_keeps_types,
 };
 pub use top_laws::{
-    a_value_joins_the_top_values, functions_join_the_top_values, the_first_group_needs_no_values,
+    a_value_joins_the_top_values, functions_join_the_top_values, stage_one_is_safe,
+    the_first_group_needs_no_values,
 };
