@@ -5,6 +5,7 @@
 mod erasing_laws;
 mod native_laws;
 mod pattern_laws;
+mod program_cases;
 mod rewriting_laws;
 mod soundness_laws;
 mod surroundings_laws;
@@ -13,6 +14,7 @@ mod top_laws;
 pub use erasing_laws::erasing_keeps_types;
 pub use native_laws::natives_are_safe;
 pub use pattern_laws::patterns_bind_typed_values;
+pub use program_cases::groups_stand_one_after_the_other;
 pub use rewriting_laws::{
     alias_makers_have_the_instances_of_their_types, field_functions_take_records,
     tuple_makers_take_the_parts_in_turn,
