@@ -1,7 +1,10 @@
+use crate::same;
 use elm_base::{At, Expr, Halt, Name, NoMemory, Operator, Side};
 use operator_trees::{Binding, Clash, Levels, chain};
 use sqlite_items::Items;
 use std::alloc::{AllocError, Global};
+use std::process::Abort;
+use std::str;
 use std::test::Fail;
 
 /// An operator with its level and side.
@@ -33,7 +36,7 @@ const TABLE: [Declared; 21] = [
 ];
 
 /// A tree as text: each operator with its sides in brackets, and the place of the whole before them.
-fn put(out: &mut Vec<u8>, tree: &Expr) -> Result<(), AllocError> {
+fn write(out: &mut Vec<u8>, tree: &Expr) -> Result<(), AllocError> {
     match tree {
         Expr::Variable { name, .. } => out.extend_from_slice(name.bytes()),
         Expr::Binary {
@@ -44,19 +47,42 @@ fn put(out: &mut Vec<u8>, tree: &Expr) -> Result<(), AllocError> {
         } => {
             out.push(b'0'.wrapping_add(u8::try_from(at.column).unwrap_or(0)))?;
             out.push(b'(')?;
-            put(out, left.get())?;
+            write(out, left.get())?;
             out.push(b' ')?;
             out.extend_from_slice(operator.name.bytes())?;
             out.push(b' ')?;
-            put(out, right.get())?;
+            write(out, right.get())?;
             out.extend_from_slice(b")")
         }
         _ => out.extend_from_slice(b"?"),
     }
 }
 
-fn levels(alloc: Global, declared: &[Declared]) -> Result<Levels, NoMemory> {
-    let mut levels = Levels::new(alloc);
+/// A tree that can be written.
+trait Tree {
+    fn put(&self, out: &mut Vec<u8>) -> Result<(), AllocError>;
+}
+
+impl Tree for Expr {
+    fn put(&self, out: &mut Vec<u8>) -> Result<(), AllocError> {
+        write(out, self)
+    }
+}
+
+/// Writes the tree, or `Clash`.
+fn put_found<T: Tree + Drop>(
+    out: &mut Vec<u8>,
+    found: Result<T, Halt<Clash>>,
+) -> Result<(), NoMemory> {
+    match found {
+        Ok(tree) => tree.put(out)?,
+        Err(Halt::Because(Clash)) => out.extend_from_slice(b"Clash")?,
+        Err(Halt::NoMemory) => return Err(NoMemory),
+    }
+    Ok(())
+}
+
+fn declare(alloc: Global, declared: &[Declared], levels: &mut Levels) -> Result<(), NoMemory> {
     for (name, level, side) in declared {
         let binding = Binding {
             level: *level,
@@ -64,40 +90,78 @@ fn levels(alloc: Global, declared: &[Declared]) -> Result<Levels, NoMemory> {
         };
         levels.declare(Name::of(alloc, name.as_bytes())?, binding)?;
     }
-    Ok(levels)
+    Ok(())
 }
 
-/// A text of names with operators between them, in words that stand at columns 1, 2, 3 and so on.
-fn tree(alloc: Global, text: &str, declared: &[Declared]) -> Result<Expr, Halt<Clash>> {
-    let mut operators = Items::new(alloc);
-    let mut operands = Items::new(alloc);
+/// Operands stand in the odd columns.
+fn put_word(
+    alloc: Global,
+    at: At,
+    word: &str,
+    operators: &mut Items<Operator>,
+    operands: &mut Items<Expr>,
+) -> Result<(), NoMemory> {
+    let name = Name::of(alloc, word.as_bytes())?;
+    if at.column % 2 == 1 {
+        operands.push(Expr::Variable { at, name })?;
+    } else {
+        operators.push(Operator { at, name })?;
+    }
+    Ok(())
+}
+
+/// The words of a text of names with operators between them; they stand at columns 1, 2, 3 and so on.
+fn put_words(
+    alloc: Global,
+    text: &str,
+    operators: &mut Items<Operator>,
+    operands: &mut Items<Expr>,
+) -> Result<(), NoMemory> {
     let mut at = At { line: 1, column: 0 };
     for word in text.split(' ') {
         at.column = at.column.saturating_add(1);
-        let name = Name::of(alloc, word.as_bytes())?;
-        if at.column % 2 == 1 {
-            operands.push(Expr::Variable { at, name })?;
-        } else {
-            operators.push(Operator { at, name })?;
-        }
+        put_word(alloc, at, word, operators, operands)?;
     }
-    chain(
-        alloc,
-        &levels(alloc, declared)?,
-        operators.as_slice(),
-        operands,
-    )
+    Ok(())
 }
 
-/// The tree of the text, or `Clash`.
-fn shown(alloc: Global, text: &str, declared: &[Declared]) -> Result<Vec<u8>, AllocError> {
+/// Writes the tree of the text, or `Clash`.
+fn put_tree(alloc: Global, levels: &Levels, text: &str, out: &mut Vec<u8>) -> Result<(), NoMemory> {
+    let mut operators = Items::new(alloc);
+    let mut operands = Items::new(alloc);
+    put_words(alloc, text, &mut operators, &mut operands)?;
+    let found = chain(alloc, levels, operators.as_slice(), operands);
+    put_found(out, found)
+}
+
+/// The text has this tree.
+fn check(
+    rt: &impl Abort,
+    alloc: Global,
+    levels: &Levels,
+    text: &str,
+    wanted: &str,
+) -> Result<(), NoMemory> {
     let mut out = Vec::new(alloc);
-    match tree(alloc, text, declared) {
-        Ok(tree) => put(&mut out, &tree)?,
-        Err(Halt::Because(Clash)) => out.extend_from_slice(b"Clash")?,
-        Err(Halt::NoMemory) => return Err(AllocError),
+    put_tree(alloc, levels, text, &mut out)?;
+    let found = str::from_utf8(out.as_slice()).unwrap_or("no text");
+    same(rt, found, wanted, text);
+    Ok(())
+}
+
+/// The texts have their trees, by what the language declares and these declarations.
+fn check_rows(
+    rt: &impl Abort,
+    alloc: Global,
+    declared: &[Declared],
+    rows: &[(&str, &str)],
+) -> Result<(), NoMemory> {
+    let mut levels = Levels::new(alloc);
+    declare(alloc, declared, &mut levels)?;
+    for (text, wanted) in rows {
+        check(rt, alloc, &levels, text, wanted)?;
     }
-    Ok(out)
+    Ok(())
 }
 
 /// What the language's own operators make.
@@ -128,17 +192,14 @@ const ROWS: [(&str, &str); 22] = [
 
 #[test]
 fn operators_stand_where_their_levels_put_them(rt: HostRuntime) -> Result<(), Fail> {
-    for (text, wanted) in ROWS {
-        let found = shown(rt.alloc(), text, &[])?;
-        assert_eq!(rt; found.as_slice(), wanted.as_bytes(), "{text}");
-    }
+    check_rows(&rt, rt.alloc(), &[], &ROWS)?;
     Ok(())
 }
 
 /// What the two operators make of `a`, `b` and `c`, by their levels and sides.
-fn expected(alloc: Global, first: Declared, second: Declared) -> Result<String, AllocError> {
-    let (o, level, side) = first;
-    let (p, other, to) = second;
+fn expected(alloc: Global, first: &Declared, second: &Declared) -> Result<String, AllocError> {
+    let (o, level, side) = *first;
+    let (p, other, to) = *second;
     if other < level || level == other && side == Side::Left && to == Side::Left {
         format!(in alloc; "1(1(a {o} b) {p} c)")
     } else if level < other || side == Side::Right && to == Side::Right {
@@ -148,45 +209,55 @@ fn expected(alloc: Global, first: Declared, second: Declared) -> Result<String, 
     }
 }
 
+fn check_pair(
+    rt: &impl Abort,
+    alloc: Global,
+    levels: &Levels,
+    first: &Declared,
+    second: &Declared,
+) -> Result<(), NoMemory> {
+    let (o, p) = (first.0, second.0);
+    let text = format!(in alloc; "a {o} b {p} c")?;
+    let wanted = expected(alloc, first, second)?;
+    check(rt, alloc, levels, text.as_str(), wanted.as_str())
+}
+
 #[test]
 fn each_pair_of_the_table(rt: HostRuntime) -> Result<(), Fail> {
-    let alloc = rt.alloc();
-    for first in TABLE {
-        for second in TABLE {
-            let (o, p) = (first.0, second.0);
-            let text = format!(in alloc; "a {o} b {p} c")?;
-            let found = shown(alloc, text.as_str(), &[])?;
-            let wanted = expected(alloc, first, second)?;
-            assert_eq!(rt; found.as_slice(), wanted.as_bytes(), "{text}");
+    let levels = Levels::new(rt.alloc());
+    for first in &TABLE {
+        for second in &TABLE {
+            check_pair(&rt, rt.alloc(), &levels, first, second)?;
         }
     }
     Ok(())
 }
 
+/// Operators of a program.
+const DECLARED: [Declared; 5] = [
+    ("<>", 5, Side::Right),
+    ("?", 0, Side::Neither),
+    ("f", 8, Side::Left),
+    // What the language declares of an operator counts, and of two declarations the first.
+    ("+", 1, Side::Right),
+    ("<>", 5, Side::Left),
+];
+
+/// What they make beside the language's.
+const BESIDE: [(&str, &str); 9] = [
+    ("a <> b <> c", "1(a <> 3(b <> c))"),
+    ("a ++ b <> c", "1(a ++ 3(b <> c))"),
+    ("a ? b", "1(a ? b)"),
+    ("a ? b ? c", "Clash"),
+    ("a ? b |> c", "Clash"),
+    ("a f b g c", "1(a f 3(b g c))"),
+    ("a g b f c", "1(1(a g b) f c)"),
+    ("a + b + c", "1(1(a + b) + c)"),
+    ("a + b * c", "1(a + 3(b * c))"),
+];
+
 #[test]
 fn declared_operators(rt: HostRuntime) -> Result<(), Fail> {
-    let declared = [
-        ("<>", 5, Side::Right),
-        ("?", 0, Side::Neither),
-        ("f", 8, Side::Left),
-        // What the language declares of an operator counts, and of two declarations the first.
-        ("+", 1, Side::Right),
-        ("<>", 5, Side::Left),
-    ];
-    let rows = [
-        ("a <> b <> c", "1(a <> 3(b <> c))"),
-        ("a ++ b <> c", "1(a ++ 3(b <> c))"),
-        ("a ? b", "1(a ? b)"),
-        ("a ? b ? c", "Clash"),
-        ("a ? b |> c", "Clash"),
-        ("a f b g c", "1(a f 3(b g c))"),
-        ("a g b f c", "1(1(a g b) f c)"),
-        ("a + b + c", "1(1(a + b) + c)"),
-        ("a + b * c", "1(a + 3(b * c))"),
-    ];
-    for (text, wanted) in rows {
-        let found = shown(rt.alloc(), text, &declared)?;
-        assert_eq!(rt; found.as_slice(), wanted.as_bytes(), "{text}");
-    }
+    check_rows(&rt, rt.alloc(), &DECLARED, &BESIDE)?;
     Ok(())
 }

@@ -1,6 +1,7 @@
 //! Types of a scene, read from text: names, arrows, tuples, records with or without a rest, and variables. A variable that
 //! begins with `comparable`, `appendable` or `compappend` has the flags of that word. Before a bar stands the rest of a row,
 //! which is opaque where its name begins with `rigid`.
+use crate::printer::one_less;
 use crate::scene::Scene;
 use elm_base::{Name, NoMemory, Token, TokenKind};
 use layout_lexer::tokens;
@@ -41,17 +42,36 @@ impl<'a> Words<'a> {
     fn takes(&mut self, text: &[u8]) -> bool {
         let found = self.sees(0, text);
         if found {
-            self.next();
+            let _ = self.next();
         }
         found
     }
 
-    fn next(&mut self) -> Option<Token<'a>> {
+    fn next(&mut self) -> Result<Token<'a>, NoMemory> {
         let [first, rest @ ..] = self.left else {
-            return None;
+            return Err(NoMemory);
         };
         self.left = rest;
-        Some(*first)
+        Ok(*first)
+    }
+
+    // A label and the colon behind it.
+    fn label(&mut self) -> Result<&'a [u8], NoMemory> {
+        let label = self.next()?;
+        if self.takes(b":") {
+            Ok(label.text)
+        } else {
+            Err(NoMemory)
+        }
+    }
+
+    // Takes a comma, or stands before the end.
+    fn passes_comma(&mut self, end: &[u8]) -> Result<(), NoMemory> {
+        if self.takes(b",") || self.sees(0, end) {
+            Ok(())
+        } else {
+            Err(NoMemory)
+        }
     }
 
     // Whether a type begins that is an argument as it stands.
@@ -66,7 +86,7 @@ impl<'a> Words<'a> {
     }
 }
 
-/// Reads types, one after the other. What has one name is one variable.
+/// Reads types, one after the other. What has one name is one variable. What is no type finds no memory.
 #[derive(Drop)]
 pub struct Reader {
     alloc: Global,
@@ -84,124 +104,182 @@ impl Reader {
     }
 
     /// The place of the type that the text stands for, if it stands for one.
-    pub fn read(&mut self, text: &str) -> Option<usize> {
-        let found = tokens(self.alloc, text.as_bytes()).ok()?;
-        let mut words = Words {
-            left: found.as_slice(),
-        };
+    pub fn read(&mut self, text: &str) -> Result<usize, NoMemory> {
+        let found = tokens(self.alloc, text.as_bytes()).or(Err(NoMemory))?;
+        self.read_all(found.as_slice())
+    }
+
+    fn read_all(&mut self, tokens: &[Token<'_>]) -> Result<usize, NoMemory> {
+        let mut words = Words { left: tokens };
         let made = self.arrow(&mut words, DEPTH)?;
         if words.left.is_empty() {
-            Some(made)
+            Ok(made)
         } else {
-            None
+            Err(NoMemory)
         }
     }
 
     #[cycle(reads)]
-    fn arrow(&mut self, words: &mut Words<'_>, depth: u32) -> Option<usize> {
-        let less = depth.checked_sub(1)?;
+    fn arrow(&mut self, words: &mut Words<'_>, depth: u32) -> Result<usize, NoMemory> {
+        let less = one_less(depth)?;
         let from = self.call(words, less)?;
         if !words.takes(b"->") {
-            return Some(from);
+            return Ok(from);
         }
         let to = self.arrow(words, less)?;
-        self.scene.arrow(from, to).ok()
+        self.scene.arrow(from, to)
     }
 
     // A name with its arguments, or one type.
     #[cycle(reads)]
-    fn call(&mut self, words: &mut Words<'_>, depth: u32) -> Option<usize> {
-        let less = depth.checked_sub(1)?;
+    fn call(&mut self, words: &mut Words<'_>, depth: u32) -> Result<usize, NoMemory> {
+        let less = one_less(depth)?;
         let token = words.next()?;
         if token.kind != TokenKind::Upper {
             return self.part(words, token, less);
         }
         let mut arguments = Items::new(self.alloc);
+        self.put_arguments(words, less, &mut arguments)?;
+        self.named(token.text, arguments.as_slice())
+    }
+
+    #[cycle(reads)]
+    fn put_arguments(
+        &mut self,
+        words: &mut Words<'_>,
+        depth: u32,
+        found: &mut Items<usize>,
+    ) -> Result<(), NoMemory> {
+        let less = one_less(depth)?;
         for _ in 0..PARTS {
             if words.begins_argument() {
                 let first = words.next()?;
-                arguments.push(self.part(words, first, less)?).ok()?;
+                let argument = self.part(words, first, less)?;
+                found.push(argument)?;
             }
         }
-        self.named(token.text, arguments.as_slice())
+        Ok(())
     }
 
     // A type that begins with this word.
     #[cycle(reads)]
-    fn part(&mut self, words: &mut Words<'_>, first: Token<'_>, depth: u32) -> Option<usize> {
-        let less = depth.checked_sub(1)?;
+    fn part(
+        &mut self,
+        words: &mut Words<'_>,
+        first: Token<'_>,
+        depth: u32,
+    ) -> Result<usize, NoMemory> {
+        let less = one_less(depth)?;
         match first.kind {
             TokenKind::Upper => self.named(first.text, &[]),
             TokenKind::Lower => self.variable(first.text),
-            _ => {
-                if first.text == b"(".as_slice() {
-                    self.brackets(words, less)
-                } else if first.text == b"{".as_slice() {
-                    self.braces(words, less)
-                } else {
-                    None
-                }
-            }
+            _ => match first.text {
+                b"(" => self.brackets(words, less),
+                b"{" => self.braces(words, less),
+                _ => Err(NoMemory),
+            },
         }
     }
 
     #[cycle(reads)]
-    fn brackets(&mut self, words: &mut Words<'_>, depth: u32) -> Option<usize> {
-        let less = depth.checked_sub(1)?;
+    fn brackets(&mut self, words: &mut Words<'_>, depth: u32) -> Result<usize, NoMemory> {
+        let less = one_less(depth)?;
         let mut parts = Items::new(self.alloc);
-        for _ in 0..PARTS {
-            if !words.takes(b")") {
-                parts.push(self.arrow(words, less)?).ok()?;
-                if !words.takes(b",") && !words.sees(0, b")") {
-                    return None;
-                }
-            } else if parts.len() == 1 {
-                return parts.pop();
-            } else {
-                return self.scene.tuple(parts.as_slice()).ok();
-            }
+        self.put_parts(words, less, &mut parts)?;
+        if parts.len() == 1 {
+            parts.pop().ok_or(NoMemory)
+        } else {
+            self.scene.tuple(parts.as_slice())
         }
-        None
+    }
+
+    // The parts up to a bracket, which is taken.
+    #[cycle(reads)]
+    fn put_parts(
+        &mut self,
+        words: &mut Words<'_>,
+        depth: u32,
+        found: &mut Items<usize>,
+    ) -> Result<(), NoMemory> {
+        let less = one_less(depth)?;
+        for _ in 0..PARTS {
+            if words.takes(b")") {
+                return Ok(());
+            }
+            let part = self.arrow(words, less)?;
+            found.push(part)?;
+            words.passes_comma(b")")?;
+        }
+        Err(NoMemory)
     }
 
     #[cycle(reads)]
-    fn braces(&mut self, words: &mut Words<'_>, depth: u32) -> Option<usize> {
-        let less = depth.checked_sub(1)?;
-        let mut rest = None;
-        if words.sees(1, b"|") {
-            let name = words.next()?;
-            rest = Some(self.rest(name.text)?);
-            words.next()?;
-        }
+    fn braces(&mut self, words: &mut Words<'_>, depth: u32) -> Result<usize, NoMemory> {
+        let less = one_less(depth)?;
+        let rest = self.before_bar(words)?;
         let mut fields = Items::new(self.alloc);
+        self.put_fields(words, less, &mut fields)?;
+        self.scene.record(fields.as_slice(), rest)
+    }
+
+    // The rest that stands before a bar, if there is a bar.
+    fn before_bar(&mut self, words: &mut Words<'_>) -> Result<Option<usize>, NoMemory> {
+        if !words.sees(1, b"|") {
+            return Ok(None);
+        }
+        let name = words.next()?;
+        words.next()?;
+        let rest = self.rest(name.text)?;
+        Ok(Some(rest))
+    }
+
+    // The fields up to a brace, which is taken.
+    #[cycle(reads)]
+    fn put_fields(
+        &mut self,
+        words: &mut Words<'_>,
+        depth: u32,
+        found: &mut Items<(Name, usize)>,
+    ) -> Result<(), NoMemory> {
+        let less = one_less(depth)?;
         for _ in 0..PARTS {
             if words.takes(b"}") {
-                return self.scene.record(fields.as_slice(), rest).ok();
+                return Ok(());
             }
-            let label = words.next()?;
-            if !words.takes(b":") {
-                return None;
-            }
+            let label = words.label()?;
             let place = self.arrow(words, less)?;
-            let label = Name::of(self.alloc, label.text).ok()?;
-            fields.push((label, place)).ok()?;
-            if !words.takes(b",") && !words.sees(0, b"}") {
-                return None;
-            }
+            self.put_field(label, place, found)?;
+            words.passes_comma(b"}")?;
         }
-        None
+        Err(NoMemory)
+    }
+
+    fn put_field(
+        &self,
+        label: &[u8],
+        place: usize,
+        found: &mut Items<(Name, usize)>,
+    ) -> Result<(), NoMemory> {
+        let label = Name::of(self.alloc, label)?;
+        found.push((label, place))?;
+        Ok(())
     }
 
     // A type of the library.
-    fn named(&mut self, name: &[u8], arguments: &[usize]) -> Option<usize> {
-        let front = if name == b"Signal".as_slice() {
-            "Signal."
-        } else {
-            "Basics."
+    fn named(&mut self, name: &[u8], arguments: &[usize]) -> Result<usize, NoMemory> {
+        let whole = self.whole_name(name)?;
+        self.scene.named(whole.as_slice(), arguments)
+    }
+
+    // The name behind that of its module.
+    fn whole_name(&self, name: &[u8]) -> Result<Vec<u8>, NoMemory> {
+        let front = match name {
+            b"Signal" => "Signal.",
+            _ => "Basics.",
         };
-        let mut whole = front.as_bytes().to_vec(self.alloc).ok()?;
-        whole.extend_from_slice(name).ok()?;
-        self.scene.named(whole.as_slice(), arguments).ok()
+        let mut whole = front.as_bytes().to_vec(self.alloc)?;
+        whole.extend_from_slice(name)?;
+        Ok(whole)
     }
 
     // The place of a variable that was named before.
@@ -214,43 +292,52 @@ impl Reader {
         None
     }
 
-    fn variable(&mut self, name: &[u8]) -> Option<usize> {
+    fn variable(&mut self, name: &[u8]) -> Result<usize, NoMemory> {
         if let Some(place) = self.found(name, false) {
-            return Some(place);
+            return Ok(place);
         }
         let flag = flag_of(name);
-        let place = self.scene.variable(flag).ok()?;
-        let variable = Variable {
-            name: Name::of(self.alloc, name).ok()?,
+        let place = self.scene.variable(flag)?;
+        let term = self.scene.term(place)?;
+        let name = Name::of(self.alloc, name)?;
+        self.keep(Variable {
+            name,
             place,
             rest: false,
-            term: self.scene.term(place).ok()?,
+            term,
             flag,
-        };
-        self.variables.push(variable).ok()?;
-        Some(place)
+        })
     }
 
-    fn rest(&mut self, name: &[u8]) -> Option<usize> {
+    fn rest(&mut self, name: &[u8]) -> Result<usize, NoMemory> {
         if let Some(place) = self.found(name, true) {
-            return Some(place);
+            return Ok(place);
         }
-        let rigid = name.starts_with(b"rigid");
-        let number = if rigid {
-            u32::try_from(name.len()).ok()
-        } else {
-            None
-        };
-        let (place, term) = self.scene.rest(number).ok()?;
-        let variable = Variable {
-            name: Name::of(self.alloc, name).ok()?,
+        let (place, term) = self.scene.rest(rigid_number(name))?;
+        let name = Name::of(self.alloc, name)?;
+        self.keep(Variable {
+            name,
             place,
             rest: true,
             term,
             flag: Flag::Plain,
-        };
-        self.variables.push(variable).ok()?;
-        Some(place)
+        })
+    }
+
+    // A variable more; its place.
+    fn keep(&mut self, variable: Variable) -> Result<usize, NoMemory> {
+        let place = variable.place;
+        self.variables.push(variable)?;
+        Ok(place)
+    }
+}
+
+// The number of a rest that is opaque.
+fn rigid_number(name: &[u8]) -> Option<u32> {
+    if name.starts_with(b"rigid") {
+        u32::try_from(name.len()).ok()
+    } else {
+        None
     }
 }
 

@@ -15,3 +15,12 @@ decreases-call l = l.depth
 
 abbrev pub decreases-part : goal.decreases-part
 decreases-part l = l.depth
+
+abbrev pub decreases-put_arguments : goal.decreases-put_arguments
+decreases-put_arguments l = l.depth
+
+abbrev pub decreases-put_fields : goal.decreases-put_fields
+decreases-put_fields l = l.depth
+
+abbrev pub decreases-put_parts : goal.decreases-put_parts
+decreases-put_parts l = l.depth

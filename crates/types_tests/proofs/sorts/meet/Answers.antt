@@ -1,4 +1,4 @@
-use Rattle.types_tests.proofs.sorts.meets.Goals as goal
+use Rattle.types_tests.proofs.sorts.meet.Goals as goal
 
 pub sorts-requires : goal.sorts-requires
 sorts-requires c = record { solvable = c.store.ensures.solvable }
