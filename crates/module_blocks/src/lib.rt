@@ -5,3 +5,4 @@ mod marks;
 mod refers;
 
 pub use marks::references;
+pub use refers::comes_before;

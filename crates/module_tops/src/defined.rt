@@ -111,7 +111,7 @@ fn push_of_one(
 }
 
 /// Whether this is the annotation of an outbound port, whose definition stands behind it.
-fn is_of_outbound(declaration: &Declaration, more: &[Declaration]) -> bool
+pub fn is_of_outbound(declaration: &Declaration, more: &[Declaration]) -> bool
     ensures { result ≡ spec.is_of_outbound declaration.now more.now }
 {
     match declaration {

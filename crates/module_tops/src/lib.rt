@@ -5,6 +5,6 @@ mod defined;
 mod picks;
 mod top;
 
-pub use defined::{tops, types};
+pub use defined::{is_of_outbound, tops, types};
 pub use picks::{is_named, is_shown, picks_top};
 pub use top::{Kind, Top};

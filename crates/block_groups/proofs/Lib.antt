@@ -1,0 +1,4 @@
+pub mod Turning
+pub mod Faults
+pub mod Growing
+pub mod Unique

@@ -1,0 +1,5 @@
+pub mod Blocks
+pub mod Cycles
+pub mod Growing
+pub mod Placed
+pub mod Turns

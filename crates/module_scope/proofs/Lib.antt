@@ -1,0 +1,5 @@
+pub mod Places
+pub mod Least
+pub mod Adding
+pub mod Determined
+pub mod Walking

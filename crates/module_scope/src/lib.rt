@@ -1,0 +1,11 @@
+//! What each name of a project stands for, and the groups of its definitions; or the first fault of its names.
+#![tactic(auto)]
+
+mod faults;
+mod found;
+mod laws;
+mod meanings;
+mod whole;
+
+pub use laws::{names_are_looked_up_in_open_scopes, resolutions_are_determined};
+pub use whole::resolve;
