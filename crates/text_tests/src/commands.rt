@@ -1,7 +1,8 @@
 //! Each command, and what is near to one.
-use crate::lines::readings;
+use crate::lines::{check_pieces, check_scripts, readings};
+use crate::same;
+use elm_base::NoMemory;
 use std::alloc::Global;
-use std::test::Fail;
 
 /// Lines with what they say.
 const COMMANDS: [(&str, &str); 56] = [
@@ -64,55 +65,63 @@ const COMMANDS: [(&str, &str); 56] = [
 ];
 
 #[test]
-fn commands_and_near_misses(rt: HostRuntime) -> Result<(), Fail> {
-    for (line, wanted) in COMMANDS {
-        for size in [1, 3, 4096] {
-            let said = readings(rt.alloc(), line.as_bytes(), size)?;
-            assert_eq!(rt; said.as_str(), wanted, "{line:?} by {size}");
-        }
+fn commands_and_near_misses(rt: HostRuntime) -> Result<(), NoMemory> {
+    check_scripts(&rt, rt.alloc(), &COMMANDS)
+}
+
+fn put_letters(line: &mut String, count: usize) -> Result<(), NoMemory> {
+    for _ in 0..count {
+        line.push('a')?;
     }
     Ok(())
 }
 
 // A line with a name of this many letters.
-fn named(alloc: Global, front: &str, count: usize, back: &str) -> Result<String, Fail> {
+fn named(alloc: Global, front: &str, count: usize, back: &str) -> Result<String, NoMemory> {
     let mut line = String::from_str(alloc, front)?;
-    for _ in 0..count {
-        line.push('a')?;
-    }
+    put_letters(&mut line, count)?;
     line.push_str(back)?;
     Ok(line)
 }
 
+// Whether the line isn't taken.
+fn is_bad(alloc: Global, line: &str) -> Result<bool, NoMemory> {
+    let said = readings(alloc, line.as_bytes(), 4096)?;
+    Ok(said.as_str() == "bad;")
+}
+
+/// What stands before and behind a name, and how many letters it may have.
+const NAMED: [(&str, &str, usize); 4] = [
+    ("input ", " 5", 255),
+    ("save ", "", 255),
+    ("load a/", "", 253),
+    ("swap ", "", 255),
+];
+
 #[test]
-fn names_have_255_bytes(rt: HostRuntime) -> Result<(), Fail> {
-    for (front, back) in [
-        ("input ", " 5"),
-        ("save ", ""),
-        ("load a/", ""),
-        ("swap ", ""),
-    ] {
-        let most = if front.ends_with('/') { 253 } else { 255 };
-        for (count, is_bad) in [(most, false), (most + 1, true)] {
+fn names_have_255_bytes(rt: HostRuntime) -> Result<(), NoMemory> {
+    for (front, back, most) in NAMED {
+        for (count, wanted) in [(most, false), (most.saturating_add(1), true)] {
             let line = named(rt.alloc(), front, count, back)?;
-            let said = readings(rt.alloc(), line.as_bytes(), 4096)?;
-            assert_eq!(rt; said.as_str() == "bad;", is_bad, "{front} {count}");
+            let found = is_bad(rt.alloc(), line.as_str())?;
+            same(&rt, (count, found), (count, wanted), front);
         }
     }
     Ok(())
 }
 
+/// Lines of bytes, and what they say.
+const BYTES: [(&[u8], &str); 4] = [
+    (b"input p \xff\n", "bad;"),
+    (b"input p \xc3\xa9\n", "input|p|\u{e9};"),
+    (b"\xff\n", "bad;"),
+    (b"#\xff\n", "nothing;"),
+];
+
 #[test]
-fn lines_that_are_no_text(rt: HostRuntime) -> Result<(), Fail> {
-    let rows: [(&[u8], &str); 4] = [
-        (b"input p \xff\n", "bad;"),
-        (b"input p \xc3\xa9\n", "input|p|\u{e9};"),
-        (b"\xff\n", "bad;"),
-        (b"#\xff\n", "nothing;"),
-    ];
-    for (line, wanted) in rows {
-        let said = readings(rt.alloc(), line, 1)?;
-        assert_eq!(rt; said.as_str(), wanted, "{line:?}");
+fn lines_that_are_no_text(rt: HostRuntime) -> Result<(), NoMemory> {
+    for (line, wanted) in BYTES {
+        check_pieces(&rt, rt.alloc(), line, wanted, wanted)?;
     }
     Ok(())
 }

@@ -1,15 +1,16 @@
 //! The script of a drill.
+use crate::same;
+use elm_base::NoMemory;
 use script_lines::script;
-use std::test::Fail;
+use std::str;
 
 #[test]
-fn the_script_of_number_0(rt: HostRuntime) -> Result<(), Fail> {
-    let text = String::from_utf8(script(rt.alloc(), 0)?)
-        .ok()
-        .ok_or("no text")?;
-    assert_eq!(rt; text.lines().count(), 2003);
-    assert!(rt; text.starts_with(FIRST));
-    assert!(rt; text.ends_with(LAST));
+fn the_script_of_number_0(rt: HostRuntime) -> Result<(), NoMemory> {
+    let bytes = script(rt.alloc(), 0)?;
+    let text = str::from_utf8(bytes.as_slice()).unwrap_or("no text");
+    same(&rt, text.lines().count(), 2003, "lines");
+    same(&rt, text.starts_with(FIRST), true, "the first lines");
+    same(&rt, text.ends_with(LAST), true, "the last lines");
     Ok(())
 }
 
