@@ -1,0 +1,6 @@
+pub mod Building
+pub mod Chains
+pub mod ClashLaws
+pub mod GrownLaws
+pub mod TreeLaws
+pub mod Waiting

@@ -1,0 +1,5 @@
+pub mod Clashes
+pub mod FixedTrees
+pub mod GrownTrees
+pub mod ProjectLevels
+pub mod Fixing
