@@ -242,6 +242,8 @@ pub fn fix(alloc: Global, project: Project) -> Result<Project, Halt<ProjectFault
 {
     let Project { mut modules } = project;
     let levels = declared(alloc, modules.as_slice())?;
-    fix_modules(alloc, &levels, &mut modules)?;
-    Ok(Project { modules })
+    match fix_modules(alloc, &levels, &mut modules) {
+        Ok(()) => Ok(Project { modules }),
+        Err(cause) => Err(cause),
+    }
 }
