@@ -1,5 +1,5 @@
 -- A chain whose operands are fixed, and its tree in its place.
-use Rattle.std.proofs.Common.{◌≡◌, ◌≢◌, Bool, true, false, ◌||◌, List, length, map, Result, Ok, Err, IfOk, IfErr, MatchResult, refl, sym, ◌∙◌, ap, subst}
+use Rattle.std.proofs.Common.{◌≡◌, ◌≢◌, true, false, List, length, map, Result, Ok, Err, IfOk, IfErr, MatchResult, sym, ◌∙◌, ap, subst}
 use Rattle.std.proofs.lemmas.List.{length-map}
 use Rattle.std.proofs.lemmas.Bool.{or_from, or_right}
 use Rattle.elm_base.specs.declared.memory.Halt.{Halt}

@@ -1,14 +1,13 @@
 -- A chain's tree is the one that grows, and a chain has none exactly where the tests say so.
-use Rattle.std.proofs.Common.{◌≡◌, ◌≢◌, ◌↔◌, ℕ, suc, ◌⊎◌, inl, inr, nat_eq, Bool, true, false, not, ◌||◌, List, [], ◌∷◌, length, map, refl, sym, ◌∙◌, ap, subst, arith}
-use Rattle.std.proofs.lemmas.List.{length-map}
-use Rattle.std.proofs.lemmas.Bool.{or_parts, both_ways, cases_eq, cases_Bool, eq-eqb, ne_eqb, eqb-true, or_cases, or_left, or_right, or_from, not_from_true, not_from_false, not-true, false_from_ne_true}
+use Rattle.std.proofs.Common.{◌≡◌, suc, ◌⊎◌, inl, inr, nat_eq, true, false, not, List, [], ◌∷◌, length, map, sym, ◌∙◌, ap, subst, arith}
+use Rattle.std.proofs.lemmas.Bool.{both_ways, cases_eq, eq-eqb, ne_eqb, or_cases, or_left, or_right, not_from_false, not-true, false_from_ne_true}
 use Rattle.elm_base.specs.declared.token.At.{At}
 use Rattle.elm_base.specs.declared.tree.Operator.{Operator}
 use Rattle.elm_base.specs.declared.tree.Expr.{Expr}
 use Rattle.operator_trees.specs.Binds.{HasClash}
 use Rattle.operator_trees.specs.Chains.{binds, expr_of, Stands}
 use Rattle.operator_trees.specs.Levels.{Declared}
-use Rattle.operator_trees.specs.Trees.{OperatorTree, Operand, operands, operators, IsTreeOf, HasNoTree}
+use Rattle.operator_trees.specs.Trees.{OperatorTree, Operand, IsTreeOf, HasNoTree}
 use Rattle.operator_trees.proofs.Building.{no_tree, clash_or_none, tree_or_clash}
 use Rattle.operator_trees.proofs.Shapes.{one_more}
 use Rattle.level_fixer.specs.Clashes.{has_clash, has_no_tree}

@@ -1,5 +1,5 @@
 -- The tests on levels and sides tell where operators clash.
-use Rattle.std.proofs.Common.{◌≡◌, ◌≢◌, ◌↔◌, ℕ, suc, ◌<◌, ◌⊎◌, inl, inr, nat_eq, nat_lt, Bool, true, false, not, ◌&&◌, ◌||◌, List, [], ◌∷◌, map, refl, sym, ◌∙◌, ap}
+use Rattle.std.proofs.Common.{◌≡◌, ◌≢◌, ◌↔◌, ◌⊎◌, inl, inr, nat_eq, nat_lt, true, false, not, ◌&&◌, List, [], ◌∷◌, map, refl}
 use Rattle.std.proofs.lemmas.Bool.{ltb-true, lt-ltb, eqb-true, eq-eqb, and_parts, and_from, or_cases, or_left, or_right, not-true, not_from_false}
 use Rattle.elm_base.specs.declared.tree.Side.{Side}
 use Rattle.elm_base.specs.declared.tree.Side.TheVariants as side

@@ -1,5 +1,5 @@
 -- A tree that respects levels and sides is what grows from its operators and operands.
-use Rattle.std.proofs.Common.{◌≡◌, ℕ, ◌<◌, ◌⊎◌, inl, inr, List, [], ◌∷◌, ◌++◌, length, refl, sym, ◌∙◌, ap, subst, arith}
+use Rattle.std.proofs.Common.{◌≡◌, List, [], ◌∷◌, ◌++◌, length, refl, ◌∙◌, ap, arith}
 use Rattle.std.proofs.lemmas.List.{length-append}
 use Rattle.operator_trees.specs.declared.binding.Binding.{Binding}
 use Rattle.operator_trees.specs.declared.binding.Below.{Below}

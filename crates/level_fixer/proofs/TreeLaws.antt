@@ -1,8 +1,7 @@
 -- What chains, and the forms whose parts are pairs, are fixed to, and whether they clash.
-use Rattle.std.proofs.Common.{◌≡◌, ◌≢◌, Bool, true, false, ◌||◌, List, [], ◌∷◌, length, map, Result, Ok, Err, MatchResult, refl, sym, ◌∙◌, ap, subst}
+use Rattle.std.proofs.Common.{◌≡◌, Bool, ◌||◌, List, [], ◌∷◌, length, map, Result, Ok, Err, MatchResult, refl, sym, ◌∙◌, ap, subst}
 use Rattle.std.proofs.lemmas.Bool.{or_from, or_left, or_right}
 use Rattle.elm_base.specs.declared.memory.Halt.{Halt}
-use Rattle.elm_base.specs.declared.memory.Halt.TheVariants as halt
 use Rattle.elm_base.specs.declared.token.At.{At}
 use Rattle.elm_base.specs.declared.tree.Operator.{Operator}
 use Rattle.elm_base.specs.declared.tree.Pattern.{Pattern}

@@ -1,7 +1,7 @@
 -- Whether a chain without a tree stands in an expression.
 use Rattle.std.specs.Prelude.{ℕ, suc, nat_eq, nat_lt, Bool, true, false, not, ◌&&◌, ◌||◌, List, [], ◌∷◌, length, map}
 use Rattle.elm_base.specs.declared.tree.Side.{Side}
-use Rattle.elm_base.specs.declared.tree.Side.TheVariants.{Left, Right, Neither}
+use Rattle.elm_base.specs.declared.tree.Side.TheVariants.{Left, Right}
 use Rattle.elm_base.specs.declared.tree.Operator.{Operator}
 use Rattle.elm_base.specs.declared.tree.Expr.{Expr}
 use Rattle.elm_base.specs.declared.tree.Set.{Set}

@@ -1,5 +1,5 @@
 -- What is declared of operators in a project, and its first fault.
-use Rattle.std.specs.Prelude.{ℕ, List, [], ◌∷◌, map, flat_map, Bool, true, false, not, ◌&&◌, nat_eq, Option, Some, None, if◌then◌else◌}
+use Rattle.std.specs.Prelude.{ℕ, List, [], ◌∷◌, map, flat_map, Bool, true, false, ◌&&◌, nat_eq, Option, Some, None, if◌then◌else◌}
 use Rattle.elm_base.specs.declared.token.At.{At}
 use Rattle.elm_base.specs.declared.fault.ProjectFault.{ProjectFault}
 use Rattle.elm_base.specs.declared.fault.FaultKind.TheVariants as kind

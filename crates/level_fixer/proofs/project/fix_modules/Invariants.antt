@@ -1,4 +1,4 @@
-use Rattle.std.proofs.Common.{◌≡◌, length}
+use Rattle.std.proofs.Common.{length}
 use Rattle.level_fixer.specs.FixedTrees.{fixed_module}
 use Rattle.level_fixer.specs.ProjectLevels.{module_fault}
 use Rattle.level_fixer.proofs.Waiting.{Passing}

@@ -1,4 +1,4 @@
-use Rattle.std.proofs.Common.{rules, ◌≡◌, ◌∙◌, ap, sym, subst}
+use Rattle.std.proofs.Common.{◌∙◌, subst}
 use Rattle.level_fixer.specs.Fixing.{Builds}
 use Rattle.level_fixer.proofs.Building.{chain_builds, boxed_builds}
 use Rattle.level_fixer.proofs.TreeLaws.{chain_at, guards_at, case_at}

@@ -1,4 +1,4 @@
-use Rattle.std.proofs.Common.{◌≡◌, ◌||◌, map, length}
+use Rattle.std.proofs.Common.{◌||◌, map, length}
 use Rattle.level_fixer.specs.Clashes.{declaration_clashes, expr_clashes, set_clashes}
 use Rattle.level_fixer.specs.FixedTrees.{fixed_declaration, fixed_expr, fixed_set}
 use Rattle.level_fixer.proofs.Waiting.{Going}
