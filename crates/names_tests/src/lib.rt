@@ -7,3 +7,14 @@ mod modules;
 mod names;
 #[cfg(test)]
 mod show;
+
+#[cfg(test)]
+use std::fmt::Debug;
+#[cfg(test)]
+use std::process::Abort;
+
+// Both are equal.
+#[cfg(test)]
+pub fn same<T: PartialEq + Debug + Drop>(rt: &impl Abort, found: T, wanted: T, label: &str) {
+    assert_eq!(rt; found, wanted, "{label}");
+}

@@ -1,10 +1,12 @@
 //! What the names of a module stand for, and its faults.
-use crate::modules::module;
-use crate::show::show;
+use crate::modules::{Sketch, empty_module, fill};
+use crate::same;
+use crate::show::put_named;
 use elm_base::Module;
 use module_names::{Face, face_of, named_module};
 use sqlite_items::Items;
 use std::alloc::Global;
+use std::process::Abort;
 use std::test::Fail;
 
 // Modules that are imported, each with what it exposes, its definitions and its union: A and B.C both show a `b` and a
@@ -16,14 +18,31 @@ const IMPORTED: [(&str, &str, &str, &str); 4] = [
     ("List", "..", "()", ""),
 ];
 
-fn imported(alloc: Global) -> Result<Items<Face>, Fail> {
-    let mut faces = Items::new(alloc);
+// The face of a module that is empty so far.
+fn push_face(
+    alloc: Global,
+    sketch: Sketch<'_>,
+    module: &mut Module,
+    faces: &mut Items<Face>,
+) -> Result<(), Fail> {
+    fill(alloc, sketch, module)?;
+    faces.push(face_of(alloc, module)?)?;
+    Ok(())
+}
+
+fn push_imported(alloc: Global, faces: &mut Items<Face>) -> Result<(), Fail> {
     for (name, entries, text, union) in IMPORTED {
-        let module = module(alloc, name, entries, "", text, union)?;
-        let face = face_of(alloc, &module)?;
-        faces.push(face)?;
+        let sketch = Sketch {
+            name,
+            entries,
+            imports: "",
+            text,
+            union,
+        };
+        let mut module = empty_module(alloc)?;
+        push_face(alloc, sketch, &mut module, faces)?;
     }
-    Ok(faces)
+    Ok(())
 }
 
 // What Main exposes, its imports, its definitions; what its uses stand for, and behind a bar its faults.
@@ -143,25 +162,45 @@ const ROWS: [(&str, &str, &str, &str); 28] = [
     ("T", "A:..", "let f = 1\nin f", "| 1 UnknownName T;"),
 ];
 
-/// What is found in a Main of these imports and definitions.
-fn found_in(alloc: Global, faces: &[Face], main: &Module) -> Result<String, Fail> {
+// What is found in a Main that is empty so far.
+fn put_main(
+    alloc: Global,
+    faces: &[Face],
+    sketch: Sketch<'_>,
+    main: &mut Module,
+    out: &mut String,
+) -> Result<(), Fail> {
+    fill(alloc, sketch, main)?;
     let named = named_module(alloc, faces, main)?;
-    let text = show(alloc, named.uses.as_slice(), named.flaws.as_slice())?;
-    Ok(text)
+    put_named(out, named.uses.as_slice(), named.flaws.as_slice())?;
+    Ok(())
 }
 
-fn found(alloc: Global, faces: &[Face], row: (&str, &str, &str)) -> Result<String, Fail> {
-    let (exposes, imports, text) = row;
-    let main = module(alloc, "Main", exposes, imports, text, "")?;
-    found_in(alloc, faces, &main)
+fn found(alloc: Global, faces: &[Face], sketch: Sketch<'_>) -> Result<String, Fail> {
+    let mut out = String::new(alloc);
+    let mut main = empty_module(alloc)?;
+    put_main(alloc, faces, sketch, &mut main, &mut out)?;
+    Ok(out)
+}
+
+fn check_rows(rt: &impl Abort, alloc: Global, faces: &[Face]) -> Result<(), Fail> {
+    for (entries, imports, text, wanted) in ROWS {
+        let sketch = Sketch {
+            name: "Main",
+            entries,
+            imports,
+            text,
+            union: "",
+        };
+        let shown = found(alloc, faces, sketch)?;
+        same(rt, shown.as_str(), wanted, text);
+    }
+    Ok(())
 }
 
 #[test]
 fn names_of_modules(rt: HostRuntime) -> Result<(), Fail> {
-    let faces = imported(rt.alloc())?;
-    for (exposes, imports, text, wanted) in ROWS {
-        let shown = found(rt.alloc(), faces.as_slice(), (exposes, imports, text))?;
-        assert_eq!(rt; shown.as_str(), wanted, "in {text}");
-    }
-    Ok(())
+    let mut faces = Items::new(rt.alloc());
+    push_imported(rt.alloc(), &mut faces)?;
+    check_rows(&rt, rt.alloc(), faces.as_slice())
 }

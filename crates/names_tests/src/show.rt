@@ -1,7 +1,7 @@
 //! Uses and faults as short texts.
 use elm_base::{FaultKind, Name, Thing};
 use module_names::{Answer, Flaw, Use};
-use std::alloc::{AllocError, Global};
+use std::alloc::AllocError;
 use std::fmt::Write;
 use std::str;
 
@@ -68,11 +68,9 @@ fn put_flaws(text: &mut String, flaws: &[Flaw]) -> Result<(), AllocError> {
     Ok(())
 }
 
-/// The uses, and behind a bar the faults.
-pub fn show(alloc: Global, uses: &[Use], flaws: &[Flaw]) -> Result<String, AllocError> {
-    let mut text = String::new(alloc);
-    put_uses(&mut text, uses)?;
+/// Writes the uses, and behind a bar the faults.
+pub fn put_named(text: &mut String, uses: &[Use], flaws: &[Flaw]) -> Result<(), AllocError> {
+    put_uses(text, uses)?;
     text.push_str("| ")?;
-    put_flaws(&mut text, flaws)?;
-    Ok(text)
+    put_flaws(text, flaws)
 }

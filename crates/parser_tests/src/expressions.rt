@@ -1,7 +1,8 @@
-use crate::form::{along, around, check_nesting};
-use crate::reading::{Reading, written};
+use crate::form::{check_along, check_around};
+use crate::reading::{Reading, check_rows, written};
+use crate::same;
 use expr_parser::one_expr;
-use std::test::Fail;
+use std::alloc::AllocError;
 
 const ACCEPTED: [(&str, &str); 93] = [
     ("1", "1"),
@@ -154,11 +155,8 @@ const ACCEPTED: [(&str, &str); 93] = [
 ];
 
 #[test]
-fn texts_have_their_trees(rt: HostRuntime) -> Result<(), Fail> {
-    for (text, wanted) in &ACCEPTED {
-        let found = written(rt.alloc(), Reading::Expression, text)?;
-        assert_eq!(rt; found.as_str(), *wanted, "{text}");
-    }
+fn texts_have_their_trees(rt: HostRuntime) -> Result<(), AllocError> {
+    check_rows(&rt, rt.alloc(), Reading::Expression, &ACCEPTED)?;
     one_expr();
     Ok(())
 }
@@ -270,39 +268,46 @@ const REFUSED_IN_LINES: [&str; 9] = [
 ];
 
 #[test]
-fn other_texts_have_none(rt: HostRuntime) -> Result<(), Fail> {
+fn other_texts_have_none(rt: HostRuntime) -> Result<(), AllocError> {
     for text in REFUSED.iter().chain(&REFUSED_IN_LINES) {
         let found = written(rt.alloc(), Reading::Expression, text)?;
-        assert_eq!(rt; found.as_str(), "NoTree", "{text}");
+        same(&rt, found.as_str(), "NoTree", text);
     }
     Ok(())
 }
 
+/// What may stand in front and behind, and how often at most.
+const AROUND: [(&str, &str, usize); 18] = [
+    ("(", ")", 100),
+    ("[", "]", 100),
+    ("(b, ", ")", 100),
+    ("[b .. ", "]", 100),
+    ("{ x = ", " }", 100),
+    ("{ b | x <- ", " }", 100),
+    ("{ b - x | y = ", " }", 100),
+    ("-(", ")", 50),
+    ("f (", ")", 50),
+    ("b + (", ")", 50),
+    ("\\b -> ", "", 100),
+    ("\\b c -> ", "", 50),
+    ("if b then c else ", "", 100),
+    ("if | b -> (", ")", 50),
+    ("let x = 1 in ", "", 100),
+    ("let x = ", " in b", 100),
+    ("case b of c -> ", "", 100),
+    ("", ".x", 100),
+];
+
+/// What may stand first, the part that may stand often, what stands last, and how often the part may stand.
+const ALONG: [(&str, &str, &str, usize); 4] = [
+    ("f", " a", "", 100),
+    ("a", " + a", "", 100),
+    ("\\", "a ", "-> a", 100),
+    ("let f ", "a ", "= a in f", 99),
+];
+
 #[test]
-fn expressions_nest_at_most_100_deep(rt: HostRuntime) -> Result<(), Fail> {
-    let forms = [
-        around("(", ")", 100),
-        around("[", "]", 100),
-        around("(b, ", ")", 100),
-        around("[b .. ", "]", 100),
-        around("{ x = ", " }", 100),
-        around("{ b | x <- ", " }", 100),
-        around("{ b - x | y = ", " }", 100),
-        around("-(", ")", 50),
-        around("f (", ")", 50),
-        around("b + (", ")", 50),
-        around("\\b -> ", "", 100),
-        around("\\b c -> ", "", 50),
-        around("if b then c else ", "", 100),
-        around("if | b -> (", ")", 50),
-        around("let x = 1 in ", "", 100),
-        around("let x = ", " in b", 100),
-        around("case b of c -> ", "", 100),
-        around("", ".x", 100),
-        along("f", " a", "", 100),
-        along("a", " + a", "", 100),
-        along("\\", "a ", "-> a", 100),
-        along("let f ", "a ", "= a in f", 99),
-    ];
-    check_nesting(&rt, rt.alloc(), Reading::Expression, &forms)
+fn expressions_nest_at_most_100_deep(rt: HostRuntime) -> Result<(), AllocError> {
+    check_around(&rt, rt.alloc(), Reading::Expression, &AROUND)?;
+    check_along(&rt, rt.alloc(), Reading::Expression, &ALONG)
 }

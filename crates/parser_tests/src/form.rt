@@ -1,12 +1,12 @@
 //! Texts that nest, and how deep they may.
 use crate::reading::{Reading, written};
+use crate::same;
 use std::alloc::{AllocError, Global};
 use std::process::Abort;
-use std::test::Fail;
 
 /// A text that nests: what stands first, then `front` some times, `middle`, `back` as often, and what stands last.
-#[derive(Drop)]
-pub struct Form {
+#[derive(Clone, Copy)]
+struct Form {
     first: &'static str,
     front: &'static str,
     middle: &'static str,
@@ -35,46 +35,56 @@ impl Form {
         let found = written(alloc, reading, text.as_str())?;
         Ok(found.as_str() != "NoTree")
     }
-}
 
-pub fn around(front: &'static str, back: &'static str, most: usize) -> Form {
-    Form {
-        first: "",
-        front,
-        middle: "a",
-        back,
-        last: "",
-        most,
+    // The form has a tree with as many parts as it may have, and none with one more or with far more.
+    fn check(&self, rt: &impl Abort, alloc: Global, reading: Reading) -> Result<(), AllocError> {
+        let more = self.most.saturating_add(1);
+        for (times, wanted) in [(self.most, true), (more, false), (5000, false)] {
+            let found = self.has_tree(alloc, reading, times)?;
+            same(rt, (times, found), (times, wanted), self.front);
+        }
+        Ok(())
     }
 }
 
-pub fn along(first: &'static str, front: &'static str, last: &'static str, most: usize) -> Form {
-    Form {
-        first,
-        front,
-        middle: "",
-        back: "",
-        last,
-        most,
-    }
-}
-
-/// Each form has a tree with as many parts as it may have, and none with one more or with far more.
-pub fn check_nesting(
+/// Texts that nest round an `a`: what stands in front of it and behind it, and how often at most.
+pub fn check_around(
     rt: &impl Abort,
     alloc: Global,
     reading: Reading,
-    forms: &[Form],
-) -> Result<(), Fail> {
-    for form in forms {
-        let front = form.front;
-        assert!(rt; form.has_tree(alloc, reading, form.most)?, "{front}");
-        for times in [form.most.saturating_add(1), 5000] {
-            assert!(rt;
-                !form.has_tree(alloc, reading, times)?,
-                "{front} {times} times"
-            );
-        }
+    rows: &[(&'static str, &'static str, usize)],
+) -> Result<(), AllocError> {
+    for (front, back, most) in rows {
+        let form = Form {
+            first: "",
+            front,
+            middle: "a",
+            back,
+            last: "",
+            most: *most,
+        };
+        form.check(rt, alloc, reading)?;
+    }
+    Ok(())
+}
+
+/// Texts whose parts stand side by side: what stands first, the part, what stands last, and how often the part may stand.
+pub fn check_along(
+    rt: &impl Abort,
+    alloc: Global,
+    reading: Reading,
+    rows: &[(&'static str, &'static str, &'static str, usize)],
+) -> Result<(), AllocError> {
+    for (first, front, last, most) in rows {
+        let form = Form {
+            first,
+            front,
+            middle: "",
+            back: "",
+            last,
+            most: *most,
+        };
+        form.check(rt, alloc, reading)?;
     }
     Ok(())
 }

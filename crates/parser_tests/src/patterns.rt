@@ -1,7 +1,7 @@
-use crate::form::{around, check_nesting};
-use crate::reading::{Reading, written};
+use crate::form::check_around;
+use crate::reading::{Reading, check_rows};
 use expr_parser::one_pattern;
-use std::test::Fail;
+use std::alloc::AllocError;
 
 /// Patterns and their trees, each with its column behind it.
 const ROWS: [(&str, &str); 57] = [
@@ -74,25 +74,24 @@ const ROWS: [(&str, &str); 57] = [
 ];
 
 #[test]
-fn patterns_have_their_trees(rt: HostRuntime) -> Result<(), Fail> {
-    for (text, wanted) in &ROWS {
-        let found = written(rt.alloc(), Reading::Pattern, text)?;
-        assert_eq!(rt; found.as_str(), *wanted, "{text}");
-    }
+fn patterns_have_their_trees(rt: HostRuntime) -> Result<(), AllocError> {
+    check_rows(&rt, rt.alloc(), Reading::Pattern, &ROWS)?;
     one_pattern();
     Ok(())
 }
 
+/// What may stand in front and behind, and how often at most.
+const AROUND: [(&str, &str, usize); 7] = [
+    ("( ", " )", 100),
+    ("a :: ", "", 100),
+    ("[ a , ", " ]", 100),
+    ("( a , ", " )", 100),
+    ("( ", " as b )", 50),
+    ("Just ( ", " )", 50),
+    ("Just [ Nothing :: ", " as b ]", 25),
+];
+
 #[test]
-fn patterns_nest_at_most_100_deep(rt: HostRuntime) -> Result<(), Fail> {
-    let forms = [
-        around("( ", " )", 100),
-        around("a :: ", "", 100),
-        around("[ a , ", " ]", 100),
-        around("( a , ", " )", 100),
-        around("( ", " as b )", 50),
-        around("Just ( ", " )", 50),
-        around("Just [ Nothing :: ", " as b ]", 25),
-    ];
-    check_nesting(&rt, rt.alloc(), Reading::Pattern, &forms)
+fn patterns_nest_at_most_100_deep(rt: HostRuntime) -> Result<(), AllocError> {
+    check_around(&rt, rt.alloc(), Reading::Pattern, &AROUND)
 }

@@ -1,9 +1,11 @@
 //! A text as a type, a pattern or an expression, and what is written of its tree.
+use crate::same;
 use crate::show::{Printed, put_expr, put_pattern, put_type};
-use elm_base::{Halt, Token};
+use elm_base::{Expr, Halt, Pattern, Token, TypeTree};
 use expr_parser::{NoTree, expr, pattern, type_text};
 use layout_lexer::tokens;
 use std::alloc::{AllocError, Global};
+use std::process::Abort;
 
 /// What a text is read as.
 #[derive(Clone, Copy)]
@@ -13,26 +15,64 @@ pub enum Reading {
     Expression,
 }
 
+/// A tree that can be written.
+trait Put {
+    fn put(&self, out: &mut Printed) -> Result<(), AllocError>;
+}
+
+impl Put for TypeTree {
+    fn put(&self, out: &mut Printed) -> Result<(), AllocError> {
+        put_type(out, self)
+    }
+}
+
+impl Put for Pattern {
+    fn put(&self, out: &mut Printed) -> Result<(), AllocError> {
+        put_pattern(out, self)
+    }
+}
+
+impl Put for Expr {
+    fn put(&self, out: &mut Printed) -> Result<(), AllocError> {
+        put_expr(out, self)
+    }
+}
+
+/// Writes the tree, or why there is none.
+fn put_read<T: Put + Drop>(
+    out: &mut Printed,
+    read: Result<T, Halt<NoTree>>,
+) -> Result<(), AllocError> {
+    match read {
+        Ok(tree) => tree.put(out),
+        Err(Halt::Because(NoTree)) => out.put("NoTree"),
+        Err(Halt::NoMemory) => out.put("NoMemory"),
+    }
+}
+
 /// Reads the tokens, and writes their tree.
 fn put_tree(
     out: &mut Printed,
     alloc: Global,
     reading: Reading,
     tokens: &[Token<'_>],
-) -> Result<Result<(), AllocError>, Halt<NoTree>> {
+) -> Result<(), AllocError> {
     match reading {
-        Reading::Type => {
-            let tree = type_text(alloc, tokens)?;
-            Ok(put_type(out, &tree))
-        }
-        Reading::Pattern => {
-            let tree = pattern(alloc, tokens)?;
-            Ok(put_pattern(out, &tree))
-        }
-        Reading::Expression => {
-            let tree = expr(alloc, tokens)?;
-            Ok(put_expr(out, &tree))
-        }
+        Reading::Type => put_read(out, type_text(alloc, tokens)),
+        Reading::Pattern => put_read(out, pattern(alloc, tokens)),
+        Reading::Expression => put_read(out, expr(alloc, tokens)),
+    }
+}
+
+fn put_text(
+    out: &mut Printed,
+    alloc: Global,
+    reading: Reading,
+    text: &str,
+) -> Result<(), AllocError> {
+    match tokens(alloc, text.as_bytes()) {
+        Err(_) => out.put("no tokens"),
+        Ok(tokens) => put_tree(out, alloc, reading, tokens.as_slice()),
     }
 }
 
@@ -40,13 +80,20 @@ fn put_tree(
 pub fn written(alloc: Global, reading: Reading, text: &str) -> Result<String, AllocError> {
     let places = !matches!(reading, Reading::Expression);
     let mut out = Printed::new(alloc, places);
-    match tokens(alloc, text.as_bytes()) {
-        Err(_) => out.put("no tokens")?,
-        Ok(tokens) => match put_tree(&mut out, alloc, reading, tokens.as_slice()) {
-            Err(Halt::Because(NoTree)) => out.put("NoTree")?,
-            Err(Halt::NoMemory) => out.put("NoMemory")?,
-            Ok(put) => put?,
-        },
-    }
+    put_text(&mut out, alloc, reading, text)?;
     Ok(out.into_text())
+}
+
+/// Each text has its tree.
+pub fn check_rows(
+    rt: &impl Abort,
+    alloc: Global,
+    reading: Reading,
+    rows: &[(&str, &str)],
+) -> Result<(), AllocError> {
+    for (text, wanted) in rows {
+        let found = written(alloc, reading, text)?;
+        same(rt, found.as_str(), *wanted, text);
+    }
+    Ok(())
 }

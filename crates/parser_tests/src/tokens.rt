@@ -1,9 +1,10 @@
+use crate::same;
+use elm_base::FaultKind::{BadChar, Excluded, IntTooWide, NotUtf8, OpenComment, OpenString, Tab};
 use elm_base::{FaultKind, Halt, Token, TokenKind};
 use layout_lexer::{TextFault, one_reading, tokens};
 use std::alloc::{AllocError, Global};
 use std::fmt::Write;
 use std::str;
-use std::test::Fail;
 
 fn kind_name(kind: TokenKind) -> &'static str {
     match kind {
@@ -89,69 +90,83 @@ const ROWS: [(&str, &str); 27] = [
 ];
 
 #[test]
-fn texts_have_their_tokens(rt: HostRuntime) -> Result<(), Fail> {
+fn texts_have_their_tokens(rt: HostRuntime) -> Result<(), AllocError> {
     for (text, wanted) in &ROWS {
         let found = written(rt.alloc(), text)?;
-        assert_eq!(rt; found.as_str(), *wanted, "{text}");
+        same(&rt, found.as_str(), *wanted, text);
     }
     one_reading();
     Ok(())
 }
 
+/// What is wrong with a text, if anything is.
+fn fault_of(alloc: Global, text: &[u8]) -> Option<TextFault> {
+    match tokens(alloc, text) {
+        Err(Halt::Because(fault)) => Some(fault),
+        _ => None,
+    }
+}
+
+/// Texts, and the line and the kind of their first fault.
+const FAULTS: [(&[u8], u32, FaultKind); 26] = [
+    (b"main = show 1.5", 1, Excluded),
+    (b"main = show 9223372036854775808", 1, IntTooWide),
+    (b"x\n1e3", 2, Excluded),
+    (b"0x1F", 1, Excluded),
+    (b"1_000", 1, Excluded),
+    (b"99999999999999999999.5", 1, Excluded),
+    (b"{- -}\n{- {- -}", 2, OpenComment),
+    (b"{-}", 1, OpenComment),
+    (b"\"a\tb\"", 1, Tab),
+    (b"-- c\n--\td", 2, Tab),
+    (b"\"\\q\"", 1, BadChar),
+    (b"\"\\u0041\"", 1, BadChar),
+    (b"'ab'", 1, BadChar),
+    (b"''", 1, BadChar),
+    (b"'''", 1, BadChar),
+    (b"'\n'", 1, BadChar),
+    (b"'", 1, BadChar),
+    (b"\"\"\"", 1, Excluded),
+    (b"\"abc", 1, OpenString),
+    (b"\"abc\n\"", 1, OpenString),
+    (b"\"a\\\n\"", 1, OpenString),
+    (b"\"\\q", 1, BadChar),
+    (b"x ?", 1, BadChar),
+    (b"1\xC3\xA9", 1, BadChar),
+    (b"?\n\xFF\t", 2, NotUtf8),
+    (b"?\n\t", 2, Tab),
+];
+
 #[test]
-fn texts_have_their_first_fault(rt: HostRuntime) -> Result<(), Fail> {
-    use FaultKind::{BadChar, Excluded, IntTooWide, NotUtf8, OpenComment, OpenString, Tab};
-    let rows: [(&[u8], u32, FaultKind); 26] = [
-        (b"main = show 1.5", 1, Excluded),
-        (b"main = show 9223372036854775808", 1, IntTooWide),
-        (b"x\n1e3", 2, Excluded),
-        (b"0x1F", 1, Excluded),
-        (b"1_000", 1, Excluded),
-        (b"99999999999999999999.5", 1, Excluded),
-        (b"{- -}\n{- {- -}", 2, OpenComment),
-        (b"{-}", 1, OpenComment),
-        (b"\"a\tb\"", 1, Tab),
-        (b"-- c\n--\td", 2, Tab),
-        (b"\"\\q\"", 1, BadChar),
-        (b"\"\\u0041\"", 1, BadChar),
-        (b"'ab'", 1, BadChar),
-        (b"''", 1, BadChar),
-        (b"'''", 1, BadChar),
-        (b"'\n'", 1, BadChar),
-        (b"'", 1, BadChar),
-        (b"\"\"\"", 1, Excluded),
-        (b"\"abc", 1, OpenString),
-        (b"\"abc\n\"", 1, OpenString),
-        (b"\"a\\\n\"", 1, OpenString),
-        (b"\"\\q", 1, BadChar),
-        (b"x ?", 1, BadChar),
-        (b"1\xC3\xA9", 1, BadChar),
-        (b"?\n\xFF\t", 2, NotUtf8),
-        (b"?\n\t", 2, Tab),
-    ];
-    for (text, line, kind) in rows {
-        match tokens(rt.alloc(), text) {
-            Err(Halt::Because(fault)) => assert!(rt; fault == TextFault { line, kind }, "{text:?}"),
-            _ => assert!(rt; false, "{text:?}"),
-        }
+fn texts_have_their_first_fault(rt: HostRuntime) -> Result<(), AllocError> {
+    for (text, line, kind) in FAULTS {
+        let found = fault_of(rt.alloc(), text);
+        let wanted = TextFault { line, kind };
+        same(&rt, (text, found), (text, Some(wanted)), "fault");
     }
     Ok(())
 }
 
+/// How many tokens a text has, unless it has a fault.
+fn count_of(alloc: Global, text: &[u8]) -> Option<usize> {
+    match tokens(alloc, text) {
+        Ok(found) => Some(found.len()),
+        _ => None,
+    }
+}
+
 #[test]
-fn names_and_operators_have_at_most_255_bytes(rt: HostRuntime) -> Result<(), Fail> {
+fn names_and_operators_have_at_most_255_bytes(rt: HostRuntime) -> Result<(), AllocError> {
     let too_large = TextFault {
         line: 1,
         kind: FaultKind::TooLarge,
     };
-    for byte in [b'x', b'+'] {
-        let text = vec![in rt.alloc(); byte; 255]?;
-        assert!(rt; matches!(tokens(rt.alloc(), text.as_slice()), Ok(_)));
+    for (byte, label) in [(b'x', "names"), (b'+', "operators")] {
         let text = vec![in rt.alloc(); byte; 256]?;
-        match tokens(rt.alloc(), text.as_slice()) {
-            Err(Halt::Because(fault)) => assert!(rt; fault == too_large),
-            _ => assert!(rt; false),
-        }
+        let shorter = count_of(rt.alloc(), &text[..255]);
+        same(&rt, shorter, Some(1), label);
+        let found = fault_of(rt.alloc(), text.as_slice());
+        same(&rt, found, Some(too_large), label);
     }
     Ok(())
 }

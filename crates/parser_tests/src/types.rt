@@ -1,7 +1,7 @@
-use crate::form::{around, check_nesting};
-use crate::reading::{Reading, written};
+use crate::form::check_around;
+use crate::reading::{Reading, check_rows};
 use expr_parser::one_type;
-use std::test::Fail;
+use std::alloc::AllocError;
 
 /// Types and their trees, each with its column behind it.
 const ROWS: [(&str, &str); 38] = [
@@ -52,25 +52,24 @@ const ROWS: [(&str, &str); 38] = [
 ];
 
 #[test]
-fn types_have_their_trees(rt: HostRuntime) -> Result<(), Fail> {
-    for (text, wanted) in &ROWS {
-        let found = written(rt.alloc(), Reading::Type, text)?;
-        assert_eq!(rt; found.as_str(), *wanted, "{text}");
-    }
+fn types_have_their_trees(rt: HostRuntime) -> Result<(), AllocError> {
+    check_rows(&rt, rt.alloc(), Reading::Type, &ROWS)?;
     one_type();
     Ok(())
 }
 
+/// What may stand in front and behind, and how often at most.
+const AROUND: [(&str, &str, usize); 7] = [
+    ("( ", " )", 100),
+    ("a -> ", "", 100),
+    ("( a , ", " )", 100),
+    ("{ x : ", " }", 100),
+    ("{ r | x : ", " }", 100),
+    ("List ( ", " )", 50),
+    ("List ( Int -> ", " )", 33),
+];
+
 #[test]
-fn types_nest_at_most_100_deep(rt: HostRuntime) -> Result<(), Fail> {
-    let forms = [
-        around("( ", " )", 100),
-        around("a -> ", "", 100),
-        around("( a , ", " )", 100),
-        around("{ x : ", " }", 100),
-        around("{ r | x : ", " }", 100),
-        around("List ( ", " )", 50),
-        around("List ( Int -> ", " )", 33),
-    ];
-    check_nesting(&rt, rt.alloc(), Reading::Type, &forms)
+fn types_nest_at_most_100_deep(rt: HostRuntime) -> Result<(), AllocError> {
+    check_around(&rt, rt.alloc(), Reading::Type, &AROUND)
 }

@@ -1,95 +1,25 @@
-ghost use Rattle.std.specs.Prelude.{◌≡◌, ◌<◌, All, IfOk};
-
-use elm_base::{NoMemory, Steps};
-use reactor_engine::{Status, Words, reactor_run};
-use reactor_outside::{MemShelf, MemSink, MemSource};
-use std::alloc::{AllocError, Global};
-use std::marker::Brand;
-use std::sync::ledger::{Blank, Ledger};
-use std::test::Fail;
+use crate::runs::{Case, Script, check, run, same};
+use elm_base::NoMemory;
+use reactor_engine::Status;
+use std::alloc::Global;
+use std::process::Abort;
+use std::str;
 
 const FIRST: &[u8] =
     b"import Graphics.Element exposing (..)\nport p : Signal Int\nmain = Signal.map show p\n";
 
-// Which calls of the outside fail, by their numbers from 1.
-#[derive(Clone, Copy)]
-struct Failing {
-    reads: &'static [u64],
-    writes: &'static [u64],
-    calls: &'static [u64],
-}
+/// The first frame of a run of it.
+const START: &str = "at 0 of 0\n| 0\n.\n";
 
-const NOTHING: Failing = Failing {
+/// A run of it in which nothing fails.
+const PLAIN: Case<'static> = Case {
+    words: &["run", "first"],
+    main: Some(FIRST),
+    script: Script::Pieces(b"", 4096),
     reads: &[],
     writes: &[],
     calls: &[],
 };
-
-fn run_on<L: Ledger>(
-    alloc: Global,
-    words: &Words,
-    shelf: &mut MemShelf,
-    script: &mut MemSource,
-    screen: &mut MemSink,
-    blank: Blank,
-) -> Status
-    requires name { blank.name ≡ L.name }
-    requires parts { blank.parts ≡ L.parts }
-    requires some_parts { 0 < blank.parts }
-{
-    let mut steps = Steps::<L>::from_blank(blank);
-    reactor_run(alloc, words, shelf, script, screen, &mut steps)
-}
-
-fn run_counted(
-    alloc: Global,
-    words: &Words,
-    shelf: &mut MemShelf,
-    script: &mut MemSource,
-    screen: &mut MemSink,
-) -> Status {
-    run_on::<Brand>(alloc, words, shelf, script, screen, Blank::new(1))
-}
-
-fn words_of(alloc: Global, given: &[&str]) -> Result<Words, NoMemory> {
-    let mut words = Words::new(alloc)?;
-    for word in given {
-        words.add(word)?;
-    }
-    Ok(words)
-}
-
-// Pieces of this size, more than a script here has bytes.
-fn sizes_of(alloc: Global, size: usize) -> Result<Vec<usize>, AllocError>
-    requires { 0 < size }
-    ensures { IfOk result (λ sizes. All (λ n. 0 < n) sizes.items) }
-{
-    let mut sizes = Vec::new(alloc);
-    for _ in 0..300 {
-        sizes.push(size)?;
-    }
-    Ok(sizes)
-}
-
-// Runs `run first` on a shelf with this Main.elm, and gives the status and what was written.
-fn run_first(
-    alloc: Global,
-    main: &[u8],
-    script: &[u8],
-    size: usize,
-    failing: &Failing,
-) -> Result<(Status, Vec<u8>), Fail>
-    requires { 0 < size }
-{
-    let words = words_of(alloc, &["run", "first"])?;
-    let mut shelf = MemShelf::new(alloc, failing.calls.to_vec(alloc)?);
-    shelf.add("first/Main.elm", main)?;
-    let sizes = sizes_of(alloc, size)?;
-    let mut source = MemSource::new(script.to_vec(alloc)?, sizes, failing.reads.to_vec(alloc)?);
-    let mut sink = MemSink::new(alloc, failing.writes.to_vec(alloc)?);
-    let status = run_counted(alloc, &words, &mut shelf, &mut source, &mut sink);
-    Ok((status, sink.bytes().to_vec(alloc)?))
-}
 
 /// Scripts with their answers behind the first frame.
 const SCRIPTS: [(&str, &str); 26] = [
@@ -136,184 +66,221 @@ const SCRIPTS: [(&str, &str); 26] = [
     ),
 ];
 
-#[test]
-fn scripts_in_pieces(rt: HostRuntime) -> Result<(), Fail> {
-    let start = "at 0 of 0\n| 0\n.\n";
-    for (script, answers) in SCRIPTS {
-        for size in [1, 3, 4096] {
-            let (status, written) = run_first(
-                rt.alloc(),
-                FIRST,
-                script.as_bytes(),
-                size,
-                &NOTHING,
-            )?;
-            let wanted = format!(in rt.alloc(); "{start}{answers}")?;
-            assert_eq!(rt; written.as_slice(), wanted.as_bytes(), "{script}");
-            assert_eq!(rt; status, Status::Done, "{script}");
-        }
-    }
-    Ok(())
-}
-
-#[test]
-fn long_lines_and_names(rt: HostRuntime) -> Result<(), Fail> {
-    let alloc = rt.alloc();
-    let rows = [
-        ("input ", 255, " 5", "UnknownInput"),
-        ("input ", 256, " 5", "Unsupported"),
-        ("input p 5", 65_527, "", "BadValue"),
-        ("input p 5", 65_528, "", "Unsupported"),
-    ];
-    for (front, count, back, refusal) in rows {
-        let mut script = String::from_str(alloc, front)?;
-        for _ in 0..count {
-            script.push('a')?;
-        }
-        script.push_str(back)?;
-        script.push_str("\ninput p 3\n")?;
-        let (status, written) = run_first(alloc, FIRST, script.as_bytes(), 4096, &NOTHING)?;
-        let text = String::from_utf8(written).ok().ok_or("no text")?;
-        let line = text.lines().nth(3).ok_or("no answer")?;
-        assert_eq!(rt; line.split(' ').nth(1), Some(refusal), "{count}");
-        assert!(rt; text.as_str().ends_with("at 1 of 1\n| 3\n.\n"), "{count}");
-        assert_eq!(rt; status, Status::Done, "{count}");
-    }
-    Ok(())
-}
-
-#[test]
-fn a_line_that_is_no_text(rt: HostRuntime) -> Result<(), Fail> {
-    let script = b"input p \xff\ninput p 3\n";
-    let wanted = b"at 0 of 0\n| 0\n.\nrefused Unsupported\nat 1 of 1\n| 3\n.\n".as_slice();
+// The answers to a script in pieces of any size.
+fn check_pieces(
+    rt: &impl Abort,
+    alloc: Global,
+    script: &[u8],
+    answers: &str,
+) -> Result<(), NoMemory> {
     for size in [1, 3, 4096] {
-        let (status, written) = run_first(rt.alloc(), FIRST, script, size, &NOTHING)?;
-        assert_eq!(rt; written.as_slice(), wanted, "{size}");
-        assert_eq!(rt; status, Status::Done, "{size}");
+        let case = Case {
+            script: Script::Pieces(script, size),
+            ..PLAIN
+        };
+        check(rt, alloc, &case, (Status::Done, START, answers), answers)?;
+    }
+    Ok(())
+}
+
+#[test]
+fn scripts_in_pieces(rt: HostRuntime) -> Result<(), NoMemory> {
+    for (script, answers) in SCRIPTS {
+        check_pieces(&rt, rt.alloc(), script.as_bytes(), answers)?;
+    }
+    Ok(())
+}
+
+#[test]
+fn a_line_that_is_no_text(rt: HostRuntime) -> Result<(), NoMemory> {
+    let answers = "refused Unsupported\nat 1 of 1\n| 3\n.\n";
+    check_pieces(&rt, rt.alloc(), b"input p \xff\ninput p 3\n", answers)
+}
+
+// A line with so many letters between these two texts, and a line behind it.
+fn put_long(front: &str, count: usize, back: &str, out: &mut String) -> Result<(), NoMemory> {
+    out.push_str(front)?;
+    for _ in 0..count {
+        out.push('a')?;
+    }
+    out.push_str(back)?;
+    out.push_str("\ninput p 3\n")?;
+    Ok(())
+}
+
+// The reason why the line behind the first frame refuses.
+fn refusal(written: &str) -> Option<&str> {
+    written.lines().nth(3)?.split(' ').nth(1)
+}
+
+/// The front of a line, how many letters it has, its back, and why it is refused.
+const LONG: [(&str, usize, &str, &str); 4] = [
+    ("input ", 255, " 5", "UnknownInput"),
+    ("input ", 256, " 5", "Unsupported"),
+    ("input p 5", 65_527, "", "BadValue"),
+    ("input p 5", 65_528, "", "Unsupported"),
+];
+
+fn check_long(rt: &impl Abort, alloc: Global, script: &str, wanted: &str) -> Result<(), NoMemory> {
+    let case = Case {
+        script: Script::Pieces(script.as_bytes(), 4096),
+        ..PLAIN
+    };
+    let ran = run(alloc, &case)?;
+    let text = str::from_utf8(ran.written.as_slice()).unwrap_or("no text");
+    same(rt, ran.status, Status::Done, wanted);
+    same(rt, refusal(text), Some(wanted), wanted);
+    let answered = text.ends_with("at 1 of 1\n| 3\n.\n");
+    same(rt, answered, true, wanted);
+    Ok(())
+}
+
+#[test]
+fn long_lines_and_names(rt: HostRuntime) -> Result<(), NoMemory> {
+    for (front, count, back, wanted) in LONG {
+        let mut script = String::new(rt.alloc());
+        put_long(front, count, back, &mut script)?;
+        check_long(&rt, rt.alloc(), script.as_str(), wanted)?;
     }
     Ok(())
 }
 
 /// Texts of Main with the faults of their projects.
 const FAULTS: [(&str, &str); 13] = [
-    ("", "Main 0 Unsupported -"),
+    ("", "Main 0 Unsupported -\n"),
     (
         "import Graphics.Element exposing (..)\nport p : Signal Int\n",
-        "Main 0 Unsupported -",
+        "Main 0 Unsupported -\n",
     ),
     (
         "import Graphics.Element exposing (..)\nport p : Signal Int\nmain = Signal.map show q\n",
-        "Main 0 Unsupported -",
+        "Main 0 Unsupported -\n",
     ),
     (
         "import Graphics.Element exposing (..)\nport main : Signal Int\nmain = Signal.map show main\n",
-        "Main 0 Unsupported -",
+        "Main 0 Unsupported -\n",
     ),
     (
         "import Graphics.Element exposing (..)\nport show : Signal Int\nmain = Signal.map show show\n",
-        "Main 0 Unsupported -",
+        "Main 0 Unsupported -\n",
     ),
     (
         "import Graphics.Element exposing (..)\nport let : Signal Int\nmain = Signal.map show let\n",
-        "Main 0 Unsupported -",
+        "Main 0 Unsupported -\n",
     ),
     (
         "import Graphics.Element exposing (..)\nport p' : Signal Int\nmain = Signal.map show p'\n",
-        "Main 0 Unsupported -",
+        "Main 0 Unsupported -\n",
     ),
     (
         "import Graphics.Element exposing (..)\n port p : Signal Int\nmain = Signal.map show p\n",
-        "Main 0 Unsupported -",
+        "Main 0 Unsupported -\n",
     ),
     (
         "import Graphics.Element exposing (..)\nport p : Signal\nInt\nmain = Signal.map show p\n",
-        "Main 0 Unsupported -",
+        "Main 0 Unsupported -\n",
     ),
     (
         "import Graphics.Element exposing (..)\nport p : Signal Int\nmain = show 1.5\n",
-        "Main 3 Excluded -",
+        "Main 3 Excluded -\n",
     ),
     (
         "import Graphics.Element exposing (..)\nport p : Signal Int\nmain = show 9223372036854775808\n",
-        "Main 3 IntTooWide -",
+        "Main 3 IntTooWide -\n",
     ),
     (
         "import Graphics.Element exposing (..)\n\tport p : Signal Int\n",
-        "Main 2 Tab -",
+        "Main 2 Tab -\n",
     ),
-    ("import {- x\n", "Main 1 OpenComment -"),
+    ("import {- x\n", "Main 1 OpenComment -\n"),
 ];
 
 #[test]
-fn faults_of_projects(rt: HostRuntime) -> Result<(), Fail> {
+fn faults_of_projects(rt: HostRuntime) -> Result<(), NoMemory> {
+    let front = "refused ProjectRefused ";
     for (main, fault) in FAULTS {
-        let (status, written) = run_first(
+        let case = Case {
+            main: Some(main.as_bytes()),
+            script: Script::Pieces(b"input p 5\n", 4096),
+            ..PLAIN
+        };
+        check(
+            &rt,
             rt.alloc(),
-            main.as_bytes(),
-            b"input p 5\n",
-            4096,
-            &NOTHING,
+            &case,
+            (Status::ProjectRefused, front, fault),
+            main,
         )?;
-        let wanted = format!(in rt.alloc(); "refused ProjectRefused {fault}\n")?;
-        assert_eq!(rt; written.as_slice(), wanted.as_bytes(), "{main}");
-        assert_eq!(rt; status, Status::ProjectRefused, "{main}");
     }
-    // White space between the tokens is free, save that a declaration begins a line and nothing else does.
-    let spread =
-        "-- one port\nimport Graphics.Element\n  exposing (..)\nport p:Signal Int\nmain =\n  Signal.map show p";
-    let (status, written) = run_first(rt.alloc(), spread.as_bytes(), b"", 4096, &NOTHING)?;
-    assert_eq!(rt; written.as_slice(), b"at 0 of 0\n| 0\n.\n".as_slice());
-    assert_eq!(rt; status, Status::Done);
+    Ok(())
+}
+
+/// White space between the tokens is free, save that a declaration begins a line and nothing else does.
+const SPREAD: &[u8] =
+    b"-- one port\nimport Graphics.Element\n  exposing (..)\nport p:Signal Int\nmain =\n  Signal.map show p";
+
+#[test]
+fn a_project_that_is_spread(rt: HostRuntime) -> Result<(), NoMemory> {
+    let case = Case {
+        main: Some(SPREAD),
+        ..PLAIN
+    };
+    check(&rt, rt.alloc(), &case, (Status::Done, START, ""), "spread")
+}
+
+const USAGE: &str = "usage: reactor run PROJECT\n";
+
+const MISSING: &str = "refused ProjectRefused Main 0 MissingModule Main\n";
+
+/// Words on a shelf without files, and how the run ends.
+const WORDS: [(&[&str], Status, &str); 9] = [
+    (&[], Status::Usage, USAGE),
+    (&["run"], Status::Usage, USAGE),
+    (&["run", "first", "more"], Status::Usage, USAGE),
+    (&["walk", "first"], Status::Usage, USAGE),
+    (&["run", ""], Status::Usage, USAGE),
+    (&["run", "a//b"], Status::Usage, USAGE),
+    (&["run", "../a"], Status::Usage, USAGE),
+    (&["run", "-a"], Status::Usage, USAGE),
+    (&["run", "no/where-1.x"], Status::ProjectRefused, MISSING),
+];
+
+#[test]
+fn files_and_words(rt: HostRuntime) -> Result<(), NoMemory> {
+    for (words, status, text) in WORDS {
+        let case = Case {
+            words,
+            main: None,
+            ..PLAIN
+        };
+        let label = words.last().map_or("no words", |word| *word);
+        check(&rt, rt.alloc(), &case, (status, "", text), label)?;
+    }
+    Ok(())
+}
+
+fn put_spaces(count: usize, out: &mut Vec<u8>) -> Result<(), NoMemory> {
+    for _ in 0..count {
+        out.push(b' ')?;
+    }
     Ok(())
 }
 
 #[test]
-fn files_and_words(rt: HostRuntime) -> Result<(), Fail> {
-    let alloc = rt.alloc();
-    let usage: &[u8] = b"usage: reactor run PROJECT\n";
-    let missing: &[u8] = b"refused ProjectRefused Main 0 MissingModule Main\n";
-    let rows: [(&[&str], Status, &[u8]); 9] = [
-        (&[], Status::Usage, usage),
-        (&["run"], Status::Usage, usage),
-        (&["run", "first", "more"], Status::Usage, usage),
-        (&["walk", "first"], Status::Usage, usage),
-        (&["run", ""], Status::Usage, usage),
-        (&["run", "a//b"], Status::Usage, usage),
-        (&["run", "../a"], Status::Usage, usage),
-        (&["run", "-a"], Status::Usage, usage),
-        (&["run", "no/where-1.x"], Status::ProjectRefused, missing),
+fn a_file_that_is_too_large(rt: HostRuntime) -> Result<(), NoMemory> {
+    let too_large = "refused ProjectRefused Main 0 TooLarge -\n";
+    let mut main = FIRST.to_vec(rt.alloc())?;
+    put_spaces(262_145 - 83, &mut main)?;
+    let rows = [
+        (262_144, Status::Done, START),
+        (262_145, Status::ProjectRefused, too_large),
     ];
-    for (given, wanted, text) in rows {
-        let words = words_of(alloc, given)?;
-        let mut shelf = MemShelf::new(alloc, Vec::new(alloc));
-        let mut source = MemSource::new(Vec::new(alloc), Vec::new(alloc), Vec::new(alloc));
-        let mut sink = MemSink::new(alloc, Vec::new(alloc));
-        let status = run_counted(alloc, &words, &mut shelf, &mut source, &mut sink);
-        assert_eq!(rt; sink.bytes(), text, "{given:?}");
-        assert_eq!(rt; status, wanted, "{given:?}");
-    }
-    Ok(())
-}
-
-#[test]
-fn a_file_that_is_too_large(rt: HostRuntime) -> Result<(), Fail> {
-    let alloc = rt.alloc();
-    for (spaces, wanted) in [
-        (262_144 - 83, Status::Done),
-        (262_145 - 83, Status::ProjectRefused),
-    ] {
-        let mut main = FIRST.to_vec(alloc)?;
-        for _ in 0..spaces {
-            main.push(b' ')?;
-        }
-        let (status, written) = run_first(alloc, &main, b"", 4096, &NOTHING)?;
-        assert_eq!(rt; status, wanted);
-        if wanted == Status::ProjectRefused {
-            assert_eq!(rt;
-                written.as_slice(),
-                b"refused ProjectRefused Main 0 TooLarge -\n".as_slice()
-            );
-        }
+    for (bytes, status, text) in rows {
+        let case = Case {
+            main: main.get(..bytes),
+            ..PLAIN
+        };
+        check(&rt, rt.alloc(), &case, (status, "", text), text)?;
     }
     Ok(())
 }
@@ -329,87 +296,85 @@ fn ends_with(read: usize, write: usize) -> (Status, usize) {
     }
 }
 
+/// Frames of 16 bytes each.
+const FRAMES: &str = "at 0 of 0\n| 0\n.\nat 1 of 1\n| 5\n.\nat 2 of 2\n| 6\n.\nat 3 of 3\n| 7\n.\n";
+
+fn check_failures(
+    rt: &impl Abort,
+    alloc: Global,
+    read: usize,
+    write: usize,
+) -> Result<(), NoMemory> {
+    let case = Case {
+        script: Script::Pieces(b"input p 5\ninput p 6\ninput p 7\n", 10),
+        reads: &[read as u64],
+        writes: &[write as u64],
+        ..PLAIN
+    };
+    let (status, length) = ends_with(read, write);
+    let frames = FRAMES.get(..length).unwrap_or("short");
+    check(rt, alloc, &case, (status, "", frames), frames)
+}
+
 #[test]
-fn failures_of_reads_and_writes(rt: HostRuntime) -> Result<(), Fail> {
-    let alloc = rt.alloc();
-    let script = b"input p 5\ninput p 6\ninput p 7\n";
-    let frames =
-        b"at 0 of 0\n| 0\n.\nat 1 of 1\n| 5\n.\nat 2 of 2\n| 6\n.\nat 3 of 3\n| 7\n.\n".as_slice();
+fn failures_of_reads_and_writes(rt: HostRuntime) -> Result<(), NoMemory> {
     for read in 1..=5usize {
         for write in 1..=5usize {
-            let words = words_of(alloc, &["run", "first"])?;
-            let mut shelf = MemShelf::new(alloc, Vec::new(alloc));
-            shelf.add("first/Main.elm", FIRST)?;
-            let reads = vec![in alloc; read as u64]?;
-            let writes = vec![in alloc; write as u64]?;
-            let mut source = MemSource::new(script.to_vec(alloc)?, sizes_of(alloc, 10)?, reads);
-            let mut sink = MemSink::new(alloc, writes);
-            let status = run_counted(alloc, &words, &mut shelf, &mut source, &mut sink);
-            let (wanted, length) = ends_with(read, write);
-            assert_eq!(rt; status, wanted, "read {read}, write {write}");
-            assert_eq!(rt;
-                sink.bytes(),
-                frames.get(..length).ok_or("short")?,
-                "read {read}, write {write}"
-            );
+            check_failures(&rt, rt.alloc(), read, write)?;
         }
     }
     Ok(())
 }
 
-#[test]
-fn failures_of_texts(rt: HostRuntime) -> Result<(), Fail> {
-    let shelf = Failing {
-        reads: &[],
-        writes: &[],
-        calls: &[1],
-    };
-    let (status, written) = run_first(rt.alloc(), FIRST, b"input p 5\n", 4096, &shelf)?;
-    assert_eq!(rt; status, Status::ShelfFault);
-    assert_eq!(rt;
-        written.as_slice(),
-        b"refused Shelf first/Main.elm\n".as_slice()
-    );
-    let both = Failing {
-        reads: &[],
-        writes: &[1],
-        calls: &[1],
-    };
-    let (status, written) = run_first(rt.alloc(), FIRST, b"input p 5\n", 4096, &both)?;
-    assert_eq!(rt; status, Status::WriteFault);
-    assert!(rt; written.is_empty());
+/// The text of Main, its script, the writes that fail, the calls of the shelf that fail, and how the run ends.
+const FAILURES: [(&[u8], &[u8], &[u64], &[u64], Status, &str); 3] = [
+    (
+        FIRST,
+        b"input p 5\n",
+        &[],
+        &[1],
+        Status::ShelfFault,
+        "refused Shelf first/Main.elm\n",
+    ),
+    (FIRST, b"input p 5\n", &[1], &[1], Status::WriteFault, ""),
     // A text that can't be written is a failed write, whatever it says.
-    let screen = Failing {
-        reads: &[],
-        writes: &[1],
-        calls: &[],
-    };
-    let (status, written) = run_first(rt.alloc(), b"x", b"", 4096, &screen)?;
-    assert_eq!(rt; status, Status::WriteFault);
-    assert!(rt; written.is_empty());
+    (b"x", b"", &[1], &[], Status::WriteFault, ""),
+];
+
+#[test]
+fn failures_of_texts(rt: HostRuntime) -> Result<(), NoMemory> {
+    for (main, script, writes, calls, status, text) in FAILURES {
+        let case = Case {
+            main: Some(main),
+            script: Script::Pieces(script, 4096),
+            writes,
+            calls,
+            ..PLAIN
+        };
+        check(&rt, rt.alloc(), &case, (status, "", text), text)?;
+    }
     Ok(())
 }
 
 // A script of as many bytes as one may have is answered whole, and one of a byte more up to its last whole line before.
 #[test]
-fn a_script_that_is_too_long(rt: HostRuntime) -> Result<(), Fail> {
-    let alloc = rt.alloc();
-    let mut line = vec![in alloc; b'x'; 65_535]?;
-    line.push(b'\n')?;
-    for (total, wanted) in [
+fn a_script_that_is_too_long(rt: HostRuntime) -> Result<(), NoMemory> {
+    let line = vec![in rt.alloc(); b'x'; 65_535]?;
+    let rows = [
         (1 << 30, Status::Done),
         ((1 << 30) + 1, Status::ScriptTooLong),
-    ] {
-        let words = words_of(alloc, &["run", "first"])?;
-        let mut shelf = MemShelf::new(alloc, Vec::new(alloc));
-        shelf.add("first/Main.elm", FIRST)?;
-        let mut source = MemSource::repeating(line.to_vec(alloc)?, total, Vec::new(alloc));
-        let mut sink = MemSink::new(alloc, Vec::new(alloc));
-        let status = run_counted(alloc, &words, &mut shelf, &mut source, &mut sink);
-        assert_eq!(rt; status, wanted);
+    ];
+    for (total, status) in rows {
+        let case = Case {
+            script: Script::Repeated(line.as_slice(), total),
+            ..PLAIN
+        };
+        let ran = run(rt.alloc(), &case)?;
+        same(&rt, ran.status, status, "status");
         // 2^14 lines of 2^16 bytes, each answered by 20 bytes behind the first frame.
-        assert_eq!(rt; sink.bytes().len(), 16 + 20 * (1 << 14));
-        assert!(rt; sink.bytes().ends_with(b"refused Unsupported\n"));
+        same(&rt, ran.written.len(), 16 + 20 * (1 << 14), "length");
+        let refused = ran.written.as_slice().ends_with(b"refused Unsupported\n");
+        same(&rt, refused, true, "the last answer");
     }
     Ok(())
 }

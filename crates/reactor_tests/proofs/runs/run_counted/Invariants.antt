@@ -1,4 +1,4 @@
-use Rattle.reactor_tests.proofs.tests.run_counted.Given as goal
+use Rattle.reactor_tests.proofs.runs.run_counted.Given as goal
 
 -- the ledger of the steps is the blank one
 abbrev pub ghosts-run_on : goal.ghosts-run_on
