@@ -3,5 +3,6 @@
 
 mod reading;
 
+pub use level_fixer::fix;
 pub use module_grammar::{annotations_lead, one_declaration, one_module, one_outcome};
 pub use reading::module;
