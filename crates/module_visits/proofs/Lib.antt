@@ -1,0 +1,9 @@
+pub mod FileNames
+pub mod Newest
+pub mod Parsing
+pub mod Passing
+pub mod Nexts
+pub mod Told
+pub mod Turning
+pub mod Openings
+pub mod Outcomes
