@@ -299,18 +299,26 @@ fn ends_with(read: usize, write: usize) -> (Status, usize) {
 /// Frames of 16 bytes each.
 const FRAMES: &str = "at 0 of 0\n| 0\n.\nat 1 of 1\n| 5\n.\nat 2 of 2\n| 6\n.\nat 3 of 3\n| 7\n.\n";
 
+fn failing<'a>(script: &'a [u8], reads: &'a [u64], writes: &'a [u64]) -> Case<'a> {
+    Case {
+        words: &["run", "first"],
+        main: Some(FIRST),
+        script: Script::Pieces(script, 10),
+        reads,
+        writes,
+        calls: &[],
+    }
+}
+
 fn check_failures(
     rt: &impl Abort,
     alloc: Global,
     read: usize,
     write: usize,
 ) -> Result<(), NoMemory> {
-    let case = Case {
-        script: Script::Pieces(b"input p 5\ninput p 6\ninput p 7\n", 10),
-        reads: &[read as u64],
-        writes: &[write as u64],
-        ..PLAIN
-    };
+    let reads = [read as u64];
+    let writes = [write as u64];
+    let case = failing(b"input p 5\ninput p 6\ninput p 7\n", &reads, &writes);
     let (status, length) = ends_with(read, write);
     let frames = FRAMES.get(..length).unwrap_or("short");
     check(rt, alloc, &case, (status, "", frames), frames)
