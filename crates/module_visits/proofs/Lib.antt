@@ -4,6 +4,7 @@ pub mod Parsing
 pub mod Passing
 pub mod Nexts
 pub mod Told
+pub mod Rounds
 pub mod Turning
 pub mod Openings
 pub mod Outcomes

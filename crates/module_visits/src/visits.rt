@@ -216,7 +216,10 @@ fn visit_all<H: Shelf>(alloc: Global, shelf: &mut H, folder: &str) -> Result<Pro
     under.push(first, 0)?;
     let mut ended = Items::new(alloc);
     'turns: while let Some(visit) = under.pop() {
-        turn(alloc, shelf, folder, visit, &mut under, &mut ended)?;
+        match turn(alloc, shelf, folder, visit, &mut under, &mut ended) {
+            Ok(()) => {}
+            Err(stop) => return Err(stop),
+        }
     }
     Ok(Project { modules: ended })
 }
