@@ -9,7 +9,7 @@ use std::test::Fail;
 // So many bytes of Main: a comment as long as it must be.
 fn long_main(alloc: Global, bytes: usize) -> Result<String, AllocError> {
     let mut text = String::from_str(alloc, "--")?;
-    while text.len() < bytes {
+    for _ in text.len()..bytes {
         text.push_str("x")?;
     }
     Ok(text)
