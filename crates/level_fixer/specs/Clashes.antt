@@ -49,26 +49,30 @@ declaration_step (tree.PatternDefinition at pattern body) = body
 declaration_step (tree.PortDefinition at name body) = body
 declaration_step _ = false
 
+-- Whether something stands in a node, from its parts: `chain` says it of a chain, whose operands and operators it is given.
+abbrev pub in_expr : (List Bool → List Operator → Bool) → tree.Expr-F Bool Bool Bool → Bool
+in_expr chain (tree.Chain at operands operators) = chain operands operators
+in_expr chain (tree.Binary at operator left right) = left || right
+in_expr chain (tree.Negate at inner) = inner
+in_expr chain (tree.Call at function arguments) = function || any arguments
+in_expr chain (tree.Access at from label) = from
+in_expr chain (tree.Brackets at inner) = inner
+in_expr chain (tree.Tuple at parts) = any parts
+in_expr chain (tree.List at parts) = any parts
+in_expr chain (tree.Range at low high) = low || high
+in_expr chain (tree.Fields at fields) = any fields
+in_expr chain (tree.Extend at from fields) = from || any fields
+in_expr chain (tree.Update at from fields) = from || any fields
+in_expr chain (tree.Remove at from label fields) = from || any fields
+in_expr chain (tree.Lambda at patterns body) = body
+in_expr chain (tree.If at condition first second) = condition || (first || second)
+in_expr chain (tree.Guards at branches) = any (map (λ branch. branch.0 || branch.1) branches)
+in_expr chain (tree.Let at definitions body) = any definitions || body
+in_expr chain (tree.Case at scrutinee branches) = scrutinee || any (map (λ branch. branch.1) branches)
+in_expr chain _ = false
+
 abbrev pub expr_step : Declared → tree.Expr-F Bool Bool Bool → Bool
-expr_step d (tree.Chain at operands operators) = any operands || has_no_tree d (length operands) operators
-expr_step d (tree.Binary at operator left right) = left || right
-expr_step d (tree.Negate at inner) = inner
-expr_step d (tree.Call at function arguments) = function || any arguments
-expr_step d (tree.Access at from label) = from
-expr_step d (tree.Brackets at inner) = inner
-expr_step d (tree.Tuple at parts) = any parts
-expr_step d (tree.List at parts) = any parts
-expr_step d (tree.Range at low high) = low || high
-expr_step d (tree.Fields at fields) = any fields
-expr_step d (tree.Extend at from fields) = from || any fields
-expr_step d (tree.Update at from fields) = from || any fields
-expr_step d (tree.Remove at from label fields) = from || any fields
-expr_step d (tree.Lambda at patterns body) = body
-expr_step d (tree.If at condition first second) = condition || (first || second)
-expr_step d (tree.Guards at branches) = any (map (λ branch. branch.0 || branch.1) branches)
-expr_step d (tree.Let at definitions body) = any definitions || body
-expr_step d (tree.Case at scrutinee branches) = scrutinee || any (map (λ branch. branch.1) branches)
-expr_step d _ = false
+expr_step d = in_expr (λ operands operators. any operands || has_no_tree d (length operands) operators)
 
 -- a chain without a tree stands in it
 abbrev pub expr_clashes : Declared → Expr → Bool

@@ -1,3 +1,4 @@
+pub mod ChainFree
 pub mod Clashes
 pub mod FixedTrees
 pub mod GrownTrees

@@ -48,7 +48,7 @@ clash_at m at name clashes = if clashes then Some (bad_fixity m at name) else No
 abbrev pub level_at : List ℕ → At → List ℕ → Binding → Binding → Option ProjectFault
 level_at m at name counts own = if same_binding counts own then None else Some (bad_fixity m at name)
 
-abbrev fault_layer : {A B C : Type 0} → Declared → List ℕ → Bool → tree.Declaration-F A B C → Option ProjectFault
+abbrev pub fault_layer : {A B C : Type 0} → Declared → List ℕ → Bool → tree.Declaration-F A B C → Option ProjectFault
 fault_layer all m clashes (tree.Definition at name patterns body) = clash_at m at name clashes
 fault_layer all m clashes (tree.PatternDefinition at pattern body) = clash_at m at [] clashes
 fault_layer all m clashes (tree.PortDefinition at name body) = clash_at m at name.name clashes

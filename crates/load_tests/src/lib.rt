@@ -2,6 +2,8 @@
 #![tactic(auto)]
 
 #[cfg(test)]
+mod folder;
+#[cfg(test)]
 mod limits;
 #[cfg(test)]
 mod outcome;

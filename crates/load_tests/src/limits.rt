@@ -28,7 +28,7 @@ fn a_file_has_at_most_262_144_bytes(rt: HostRuntime) -> Result<(), Fail> {
         let text = long_main(alloc, bytes)?;
         let mut shelf = MemShelf::new(alloc, Vec::new(alloc));
         shelf.add("p/Main.elm", text.as_bytes())?;
-        let found = outcome(alloc, &mut shelf)?;
+        let found = outcome(alloc, &mut shelf, "p")?;
         same(&rt, found.as_str(), wanted, wanted);
     }
     Ok(())
@@ -82,7 +82,7 @@ fn a_project_has_at_most_100_modules(rt: HostRuntime) -> Result<(), Fail> {
     let alloc = rt.alloc();
     for (files, last, wanted) in CHAINS {
         let mut shelf = chain(alloc, files, last)?;
-        let found = outcome(alloc, &mut shelf)?;
+        let found = outcome(alloc, &mut shelf, "p")?;
         let front = found.as_str().get(..wanted.len()).unwrap_or("");
         same(&rt, front, wanted, wanted);
     }

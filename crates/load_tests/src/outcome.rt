@@ -1,6 +1,6 @@
 //! What loading a project gives, as a text.
 use elm_base::{FaultKind, Module, Name, ProjectFault};
-use module_visits::{LoadStop, load};
+use module_scope::{LoadStop, load};
 use reactor_outside::{MemShelf, Shelf};
 use std::alloc::{AllocError, Global};
 use std::fmt::Write;
@@ -21,6 +21,9 @@ fn kind_text(kind: FaultKind) -> &'static str {
         FaultKind::Tab => "Tab",
         FaultKind::BadChar => "BadChar",
         FaultKind::OpenString => "OpenString",
+        FaultKind::OpenComment => "OpenComment",
+        FaultKind::IntTooWide => "IntTooWide",
+        FaultKind::Excluded => "Excluded",
         FaultKind::BadHeader => "BadHeader",
         FaultKind::BadDeclaration => "BadDeclaration",
         FaultKind::NameMismatch => "NameMismatch",
@@ -56,10 +59,10 @@ fn put_stop(out: &mut String, stop: &LoadStop) -> Result<(), AllocError> {
     }
 }
 
-/// The names of the modules of the project `p` on this shelf, or its fault.
-pub fn outcome<H: Shelf>(alloc: Global, shelf: &mut H) -> Result<String, Fail> {
+/// The names of the modules of the project in this folder of the shelf, or its fault.
+pub fn outcome<H: Shelf>(alloc: Global, shelf: &mut H, folder: &str) -> Result<String, Fail> {
     let mut out = String::new(alloc);
-    match load(alloc, shelf, "p") {
+    match load(alloc, shelf, folder) {
         Ok(project) => put_modules(&mut out, project.modules.as_slice())?,
         Err(stop) => put_stop(&mut out, &stop)?,
     }

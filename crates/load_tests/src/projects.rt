@@ -1,7 +1,7 @@
 //! Rows of projects.
 use crate::outcome::{outcome, shelf_of};
 use crate::same;
-use std::alloc::Global;
+use reactor_outside::MemShelf;
 use std::test::Fail;
 
 // The files of each project, and what loading it gives. No definition may have the two characters with which a file begins.
@@ -108,9 +108,67 @@ fn projects_are_loaded_or_refused(rt: HostRuntime) -> Result<(), Fail> {
     let alloc = rt.alloc();
     for (files, wanted) in PROJECTS {
         let mut shelf = shelf_of(alloc, Vec::new(alloc), files)?;
-        let found = outcome(alloc, &mut shelf)?;
+        let found = outcome(alloc, &mut shelf, "p")?;
         same(&rt, found.as_str(), wanted, files);
     }
+    Ok(())
+}
+
+// Each fault of tokens, with a later one behind it, and with one of the declarations, of the name or of an import beside it.
+const TOKENS: [(&str, &str); 12] = [
+    ("= Main.elm\nx\n\ny = #\n", "Main 3 BadChar -"),
+    ("= Main.elm\nx = #\n\t\n", "Main 2 Tab -"),
+    ("= Main.elm\nx = #\ny = \"\n", "Main 1 BadChar -"),
+    ("= Main.elm\nx = \"\ny = #\n", "Main 1 OpenString -"),
+    ("= Main.elm\nx = 1\n{- {- -}\n\n", "Main 2 OpenComment -"),
+    (
+        "= Main.elm\nx = 9223372036854775808\ny = 1.5\n",
+        "Main 1 IntTooWide -",
+    ),
+    (
+        "= Main.elm\nx = 9223372036854775807\ny = 1.5\n",
+        "Main 2 Excluded -",
+    ),
+    (
+        "= Main.elm\nmodule B where\nimport C\nx = 1a\n",
+        "Main 3 Excluded -",
+    ),
+    (
+        "= Main.elm\nimport A\n= A.elm\nmodule B where\nx = '\n",
+        "A 2 BadChar -",
+    ),
+    (
+        "= Main.elm\nimport A\nimport C\n= A.elm\nmodule A where\nx = \"\n",
+        "A 2 OpenString -",
+    ),
+    (
+        "= Main.elm\nimport A\nx = #\n= A.elm\n\t\n",
+        "Main 2 BadChar -",
+    ),
+    (
+        "= Main.elm\nx = 1\nimport A\nmodule Main where\n",
+        "Main 2 BadHeader -",
+    ),
+];
+
+#[test]
+fn faults_of_tokens_come_first_in_their_file(rt: HostRuntime) -> Result<(), Fail> {
+    let alloc = rt.alloc();
+    for (files, wanted) in TOKENS {
+        let mut shelf = shelf_of(alloc, Vec::new(alloc), files)?;
+        let found = outcome(alloc, &mut shelf, "p")?;
+        same(&rt, found.as_str(), wanted, files);
+    }
+    Ok(())
+}
+
+#[test]
+fn bytes_that_are_no_text_come_before_tabs(rt: HostRuntime) -> Result<(), Fail> {
+    let alloc = rt.alloc();
+    let mut shelf = MemShelf::new(alloc, Vec::new(alloc));
+    shelf.add("p/Main.elm", b"\t\nx = \"\xc3\"\n")?;
+    let found = outcome(alloc, &mut shelf, "p")?;
+    same(&rt, found.as_str(), "Main 2 NotUtf8 -", "half a char");
     Ok(())
 }
 
@@ -131,7 +189,7 @@ fn failed_reads_are_no_faults(rt: HostRuntime) -> Result<(), Fail> {
         let mut failing = Vec::new(alloc);
         failing.push(call)?;
         let mut shelf = shelf_of(alloc, failing, THREE)?;
-        let found = outcome(alloc, &mut shelf)?;
+        let found = outcome(alloc, &mut shelf, "p")?;
         same(&rt, found.as_str(), wanted, wanted);
     }
     Ok(())

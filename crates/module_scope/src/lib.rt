@@ -7,5 +7,6 @@ mod laws;
 mod meanings;
 mod whole;
 
+pub use module_visits::{LoadStop, load};
 pub use laws::{names_are_looked_up_in_open_scopes, resolutions_are_determined};
 pub use whole::resolve;
