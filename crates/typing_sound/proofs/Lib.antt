@@ -17,4 +17,8 @@ pub mod TopsAdded
 pub mod Rewritten
 pub mod Laws
 pub mod Makers
+pub mod Sources
+pub mod Settled
+pub mod SettledRules
+pub mod SettledTops
 pub mod Started

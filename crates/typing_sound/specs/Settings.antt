@@ -2,6 +2,7 @@
 use Rattle.std.specs.Prelude.{ℕ, List, ◌++◌}
 use Rattle.elm_typing.specs.Ground.{Ground}
 use Rattle.elm_typing.specs.Sorts.{Sort}
+use Rattle.elm_typing.specs.Spelling.{all_simple}
 use Rattle.elm_meaning.specs.Values.{Tree, Group}
 use Rattle.elm_meaning.specs.Equations.{Equation}
 use Rattle.typing_rules.specs.Unions.{Union}
@@ -20,6 +21,11 @@ pub record Setting : Type 0 where
   pub inputs : List Ground
   pub groups : List (List Definition)
   pub equations : List Equation
+
+-- the same where every opaque type is simple
+abbrev pub with_simple_types : Setting → Setting
+with_simple_types p =
+    record { sorts = all_simple; own = p.own; inputs = p.inputs; groups = p.groups; equations = p.equations }
 
 -- without nodes
 abbrev pub before_nodes : Setting → World

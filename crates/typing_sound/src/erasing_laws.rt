@@ -4,12 +4,11 @@ ghost use Rattle.elm_typing.specs.Ground.{Ground};
 ghost use Rattle.typing_rules.specs.Core.{Core, erased};
 ghost use Rattle.typing_rules.specs.CoreTypes.{CoreHas};
 ghost use Rattle.typing_rules.specs.TermTypes.{TermHas};
-ghost use Rattle.typing_rules.specs.Worlds.{no_surroundings};
-ghost use Rattle.typing_sound.specs.Settings.{Setting, world_of};
+ghost use Rattle.typing_sound.specs.Settings.{Setting, Scope, world_of, types_in};
 
-/// What a closed tree of a program's text has as a type, the plain term that is left of it has too.
+/// What a tree of a program's text has as a type, the plain term that is left of it has too, whatever its free names have.
 pub fn erasing_keeps_types()
-    ensures { (p : Setting) (e : Core) (t : Ground) →
-        CoreHas (world_of p) no_surroundings e t → TermHas (world_of p) no_surroundings
-        (erased e) t }
+    ensures { (p : Setting) (scope : Scope) (e : Core) (t : Ground) →
+        CoreHas (world_of p) (types_in (world_of p) scope) e t →
+        TermHas (world_of p) (types_in (world_of p) scope) (erased e) t }
 {}

@@ -8,6 +8,7 @@ mod pattern_laws;
 mod program_cases;
 mod rewriting_laws;
 mod soundness_laws;
+mod source_laws;
 mod surroundings_laws;
 mod top_laws;
 
@@ -23,6 +24,11 @@ pub use soundness_laws::{
     equations_are_well_typed_in_order, simple_terms_make_no_node,
     values_have_the_types_of_their_terms, well_typed_calls_are_safe, well_typed_terms_are_safe,
     well_typed_terms_have_rules,
+};
+pub use source_laws::{
+    blocks_have_the_types_of_their_groups, functions_have_the_types_of_nested_lambdas,
+    list_patterns_fit_lists, names_have_the_types_of_their_things,
+    operators_have_the_types_of_calls,
 };
 pub use surroundings_laws::{
     more_surroundings_type_no_less, only_used_names_matter, substitution_keeps_types,

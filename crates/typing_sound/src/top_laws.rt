@@ -13,7 +13,7 @@ ghost use Rattle.typing_rules.specs.TopGroups.{Definition, TopsHave};
 ghost use Rattle.signal_meaning.specs.StageOne.{Start, Cause, stage_one_of};
 ghost use Rattle.typing_sound.specs.Programs.{GroupsStand, trees_of, IsAcceptedProgram, HasTypings};
 ghost use Rattle.typing_sound.specs.SafeEndings.{TopsTyped};
-ghost use Rattle.typing_sound.specs.Settings.{Setting, before_nodes, world_of};
+ghost use Rattle.typing_sound.specs.Settings.{Setting, with_simple_types, before_nodes, world_of};
 ghost use Rattle.typing_sound.specs.TopValues.{tops_in, GroupsAreBelow, AreNumbered, AreFunctions, with_one_more};
 
 /// Before the first group there are no top values.
@@ -42,8 +42,9 @@ pub fn functions_join_the_top_values()
 {}
 
 /// Stage one of a program whose groups are accepted always has a rule: it ends with all top values or with a fault. Its top
-/// values have all types of their names. Its equations are well typed in order, also where it ends with a fault, where all
-/// groups have typings with the setting's sorts.
+/// values have all types of their names. Its equations are well typed in order where every opaque type is simple, whichever
+/// sorts the groups were accepted with, and also where stage one ends with a fault. So they are with any other sorts with
+/// which all groups have typings.
 pub fn stage_one_is_safe()
     ensures rules { (p : Setting) (start : Start) → start.tops ≡ trees_of p.groups →
         GroupsStand 0 p.groups → IsAcceptedProgram p →
@@ -53,6 +54,10 @@ pub fn stage_one_is_safe()
         (stage_one_of start).stop ≡ None →
         TopsTyped (world_of p) (Some (stage_one_of start).equations) (stage_one_of start).values }
     ensures equations { (p : Setting) (start : Start) → start.tops ≡ trees_of p.groups →
+        GroupsStand 0 p.groups → IsAcceptedProgram p →
+        AreWellTyped (stage_one_of start).equations (world_of (with_simple_types p)) }
+    ensures equations_with_sorts { (p : Setting) (start : Start) →
+        start.tops ≡ trees_of p.groups →
         GroupsStand 0 p.groups → IsAcceptedProgram p → HasTypings p →
         AreWellTyped (stage_one_of start).equations (world_of p) }
 {}
