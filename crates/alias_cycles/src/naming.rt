@@ -35,7 +35,9 @@ fn push_names(
 {
     match tree {
         TypeTree::Named {
-            name, arguments, ..
+            name,
+            arguments,
+            ..
         } => {
             push_found(type_at(alloc, scope, name.bytes())?, out)?;
             push_all_names(alloc, scope, arguments.as_slice(), out)

@@ -43,7 +43,11 @@ fn put_fault(text: &mut String, fault: &ProjectFault) -> Result<(), NoMemory> {
     put_name(text, &fault.module)?;
     let line = fault.line;
     write!(text, " {line} ")?;
-    let kind = if fault.kind == FaultKind::BadType { "BadType " } else { "another kind " };
+    let kind = if fault.kind == FaultKind::BadType {
+        "BadType "
+    } else {
+        "another kind "
+    };
     text.push_str(kind)?;
     put_name(text, &fault.name)
 }

@@ -159,18 +159,21 @@ const ARGUMENTS: [Row; 26] = [
 
 /// A `let` in each form of an expression.
 const PLACES: [Row; 19] = [
-    (
-        "f = 1 + let\n  g : a\n  g = g\n in g",
-        "Main 2 BadType a",
-    ),
+    ("f = 1 + let\n  g : a\n  g = g\n in g", "Main 2 BadType a"),
     ("f = -(let\n  g : a\n  g = g\n in g)", "Main 2 BadType a"),
     ("f = f (let\n  g : a\n  g = g\n in g)", "Main 2 BadType a"),
     ("f = (let\n  g : a\n  g = g\n in g) f", "Main 2 BadType a"),
     ("f = (let\n  g : a\n  g = g\n in g).x", "Main 2 BadType a"),
     ("f = (1, let\n  g : a\n  g = g\n in g)", "Main 2 BadType a"),
     ("f = [let\n  g : a\n  g = g\n in g]", "Main 2 BadType a"),
-    ("f = [1 .. let\n  g : a\n  g = g\n in g]", "Main 2 BadType a"),
-    ("f = { x = let\n  g : a\n  g = g\n in g }", "Main 2 BadType a"),
+    (
+        "f = [1 .. let\n  g : a\n  g = g\n in g]",
+        "Main 2 BadType a",
+    ),
+    (
+        "f = { x = let\n  g : a\n  g = g\n in g }",
+        "Main 2 BadType a",
+    ),
     (
         "f r = { r | x = let\n  g : a\n  g = g\n in g }",
         "Main 2 BadType a",
@@ -183,7 +186,10 @@ const PLACES: [Row; 19] = [
         "f r = { r - x | x = let\n  g : a\n  g = g\n in g }",
         "Main 2 BadType a",
     ),
-    ("f = \\x -> let\n  g : a\n  g = g\n in g", "Main 2 BadType a"),
+    (
+        "f = \\x -> let\n  g : a\n  g = g\n in g",
+        "Main 2 BadType a",
+    ),
     (
         "f = if 1 then 2 else let\n  g : a\n  g = g\n in g",
         "Main 2 BadType a",

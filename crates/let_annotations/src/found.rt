@@ -24,11 +24,7 @@ fn push_annotation(
 }
 
 #[cycle(found)]
-fn push_of_expr(
-    alloc: Global,
-    tree: &Expr,
-    out: &mut Items<LetAnnotation>,
-) -> Result<(), NoMemory>
+fn push_of_expr(alloc: Global, tree: &Expr, out: &mut Items<LetAnnotation>) -> Result<(), NoMemory>
     ensures { OnOk result (out.new ≡ out.old ++ spec.found_in tree.now) }
 {
     match tree {
@@ -189,7 +185,9 @@ fn push_of_let(alloc: Global, tree: &Expr, out: &mut Items<LetAnnotation>) -> Re
     ensures { OnOk result (out.new ≡ out.old ++ spec.let_of tree.now) }
 {
     let Expr::Let {
-        definitions, body, ..
+        definitions,
+        body,
+        ..
     } = tree
     else {
         return Ok(());

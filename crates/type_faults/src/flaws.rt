@@ -113,12 +113,7 @@ fn place_of(declaration: &Declaration) -> At
 }
 
 /// Appends the fault at a place that has the first of these names.
-fn push_fault(
-    alloc: Global,
-    at: At,
-    wrong: &[Spot],
-    out: &mut Items<Flaw>,
-) -> Result<(), NoMemory>
+fn push_fault(alloc: Global, at: At, wrong: &[Spot], out: &mut Items<Flaw>) -> Result<(), NoMemory>
     ensures { OnOk result (out.new ≡ out.old ++ spec.fault_at at wrong.now) }
 {
     match wrong {

@@ -105,13 +105,19 @@ fn push_declared(
 {
     match declaration {
         Declaration::Union {
-            name, parameters, ..
+            name,
+            parameters,
+            ..
         } => push_as(alloc, module, &name.name, parameters.len(), false, out),
         Declaration::Alias {
-            name, parameters, ..
+            name,
+            parameters,
+            ..
         } => push_as(alloc, module, &name.name, parameters.len(), true, out),
         Declaration::Opaque {
-            name, parameters, ..
+            name,
+            parameters,
+            ..
         } => push_as(alloc, module, name, parameters.len(), false, out),
         _ => Ok(()),
     }
