@@ -1,5 +1,7 @@
 //! The first fault of a project's types.
-use crate::projects::{Row, go_through};
+use crate::projects::{Row, expect_first, go_through};
+use std::alloc::{AllocError, Global};
+use std::fmt::Write;
 use std::test::Fail;
 
 /// A name of a type that stands for none, in each form of a type and of a declaration, beside one that stands for one.
@@ -311,4 +313,26 @@ fn aliases_that_reach_themselves(rt: HostRuntime) -> Result<(), Fail> {
 #[test]
 fn first_of_two(rt: HostRuntime) -> Result<(), Fail> {
     go_through(&rt, rt.alloc(), &ORDER)
+}
+
+/// An alias of Int, and thirty of which each is a pair of the one before.
+fn put_doubled(text: &mut String) -> Result<(), AllocError> {
+    text.push_str("type alias A0 = Int")?;
+    for next in 1..31u32 {
+        let last = next - 1;
+        write!(text, "\ntype alias A{next} = (A{last}, A{last})")?;
+    }
+    Ok(())
+}
+
+fn doubled(alloc: Global) -> Result<String, AllocError> {
+    let mut text = String::new(alloc);
+    put_doubled(&mut text)?;
+    Ok(text)
+}
+
+#[test]
+fn aliases_that_double(rt: HostRuntime) -> Result<(), Fail> {
+    let text = doubled(rt.alloc())?;
+    expect_first(&rt, rt.alloc(), text.as_str(), "clear")
 }
