@@ -1,0 +1,8 @@
+use Rattle.type_faults.proofs.Determined.{one_fault, not_both}
+use Rattle.type_faults.proofs.laws.text_faults_are_determined.Goals as goal
+
+pub returns : goal.returns
+returns c = record {
+  one = one_fault;
+  not_both = not_both;
+}

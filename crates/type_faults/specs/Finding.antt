@@ -1,0 +1,27 @@
+-- For private contracts: the first fault as a function.
+use Rattle.std.specs.Prelude.{ℕ, Option, Some, None, List, [], ◌∷◌}
+use Rattle.elm_base.specs.declared.fault.ProjectFault.{ProjectFault}
+use Rattle.elm_base.specs.declared.tree.Module.{Module}
+use Rattle.module_scope.specs.Finding.{first_in}
+use Rattle.type_names.specs.declared.known.KnownType.{KnownType}
+use Rattle.alias_cycles.specs.declared.texts.AliasText.{AliasText}
+use Rattle.type_faults.specs.Flaws.{Leads, faults_in}
+use Rattle.type_faults.specs.Faults.{IsTextFault, HasNoTextFault}
+
+-- the first that is there
+abbrev pub or_else : Option ProjectFault → Option ProjectFault → Option ProjectFault
+or_else None later = later
+or_else (Some fault) later = Some fault
+
+-- of one module
+abbrev pub first_of_one : List KnownType → List AliasText → Leads → Module → Option ProjectFault
+first_of_one types aliases leads «module» = first_in «module».name (faults_in types aliases leads «module»)
+
+-- of several, in their order
+abbrev pub first_of : List KnownType → List AliasText → Leads → List Module → Option ProjectFault
+first_of types aliases leads [] = None
+first_of types aliases leads («module» ∷ more) = or_else (first_of_one types aliases leads «module») (first_of types aliases leads more)
+
+abbrev pub Finds : List Module → Option ProjectFault → Type 0
+Finds modules None = HasNoTextFault modules
+Finds modules (Some fault) = IsTextFault modules fault
