@@ -134,7 +134,7 @@ BENCHES = {
     "modules": modules,
     "groups": by_numbers("groups_bench", [(2500, 0), (5000, 0), (0, 2500), (0, 5000)]),
     "types": by_numbers("types_bench", [(500, 0), (1000, 0), (2000, 0), (0, 10000), (0, 20000)]),
-    "prims": by_numbers("prims_bench", [(100000,), (200000,), (1000000,)]),
+    "prims": by_numbers("prims_bench", [(100000, 0), (200000, 0), (1000000, 0), (0, 1000000), (0, 2000000), (0, 4000000)]),
     "arena": by_numbers("arena_bench", [(50000, 0), (100000, 0), (0, 500000), (0, 1000000)]),
     "lines": lines,
     "reactor": reactor,
