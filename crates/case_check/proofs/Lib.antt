@@ -1,0 +1,3 @@
+pub mod Refining
+pub mod Exact
+pub mod Counting
