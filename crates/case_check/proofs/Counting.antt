@@ -1,5 +1,5 @@
 -- As many skeletons as there are in the list.
-use Rattle.std.proofs.Common.{◌≡◌, suc, List, [], ◌∷◌, map, length, refl, ap}
+use Rattle.std.proofs.Common.{◌≡◌, suc, List, [], ◌∷◌, length, refl, ap}
 use Rattle.case_check.specs.declared.skeleton.Skeleton.{Skeleton}
 use Rattle.case_check.specs.Shapes.{count}
 use Rattle.case_check.specs.Trees.{shapes_of}

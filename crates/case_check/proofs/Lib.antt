@@ -1,3 +1,4 @@
 pub mod Refining
 pub mod Exact
 pub mod Counting
+pub mod Fronts

@@ -13,12 +13,13 @@ use Rattle.elm_base.specs.declared.project.Typed.{Typed}
 use Rattle.elm_base.specs.declared.project.UnionOf.{UnionOf}
 use Rattle.case_check.specs.Shapes.{Choice, Wanted, Anything, Literal, NoWanteds, wanteds}
 
+abbrev pub is_at : List ℕ → At → Meaning → Bool
+is_at module_name at m = bytes_eq m.«module» module_name && ((m.at.line == at.line) && (m.at.column == at.column))
+
 -- what the name at a place of this module stands for
 abbrev pub thing_at : List ℕ → At → List Meaning → Option Thing
 thing_at module_name at [] = None
-thing_at module_name at (m ∷ ms) =
-    if bytes_eq m.«module» module_name && ((m.at.line == at.line) && (m.at.column == at.column)) then Some m.thing
-    else thing_at module_name at ms
+thing_at module_name at (m ∷ ms) = if is_at module_name at m then Some m.thing else thing_at module_name at ms
 
 -- ---- unions
 
@@ -46,15 +47,24 @@ lists = (codes "[]", 0) ∷ (codes "::", 2) ∷ []
 abbrev pub cons_of : Wanted → Wanted → Wanted
 cons_of head tail = Wanted.Made lists (codes "::") (wanteds (head ∷ tail ∷ []))
 
+abbrev pub in_front : List Wanted → Wanted → Wanted
+in_front [] tail = tail
+in_front (w ∷ ws) tail = cons_of w (in_front ws tail)
+
 -- a list pattern is its parts in front of the empty list
 abbrev pub list_of : List Wanted → Wanted
-list_of [] = Wanted.Made lists (codes "[]") NoWanteds
-list_of (w ∷ ws) = cons_of w (list_of ws)
+list_of ws = in_front ws (Wanted.Made lists (codes "[]") NoWanteds)
 
--- A name that is no constructor has no union. No typed project has one in a pattern.
-abbrev pub made_of : List UnionOf → Option Thing → List Wanted → Wanted
-made_of us (Some (thing.Constructor module_name name)) ws = Wanted.Made (union_with module_name name us) name (wanteds ws)
-made_of us _ ws = Wanted.Made [] [] (wanteds ws)
+-- The union and the name of a constructor. A name that is no constructor has neither. No typed project has one in a pattern.
+abbrev pub constructor_of : List UnionOf → Option Thing → List Choice × List ℕ
+constructor_of us (Some (thing.Constructor module_name name)) = (union_with module_name name us, name)
+constructor_of us _ = ([], [])
+
+abbrev pub constructor_at : Typed → List ℕ → At → List Choice × List ℕ
+constructor_at typed module_name at = constructor_of typed.decls.unions (thing_at module_name at typed.resolved.meanings)
+
+abbrev pub made_of : List Choice × List ℕ → List Wanted → Wanted
+made_of c ws = Wanted.Made c.0 c.1 (wanteds ws)
 
 -- ---- patterns
 
@@ -67,7 +77,7 @@ asked_step typed module_name (pattern.Char at value) = Literal
 asked_step typed module_name (pattern.Text at value) = Literal
 asked_step typed module_name (pattern.Unit at) = tuple_of []
 asked_step typed module_name (pattern.Made at constructor parts) =
-    made_of typed.decls.unions (thing_at module_name at typed.resolved.meanings) parts
+    made_of (constructor_at typed module_name at) parts
 asked_step typed module_name (pattern.Cons at head tail) = cons_of head tail
 asked_step typed module_name (pattern.List at parts) = list_of parts
 asked_step typed module_name (pattern.Tuple at parts) = tuple_of parts

@@ -1,6 +1,6 @@
 -- How a missing case is sought: beginning with a hole, pattern by pattern, each skeleton that doesn't clash with the pattern
 -- is filled in at one place so that it does, in all ways.
-use Rattle.std.specs.Prelude.{ℕ, Bool, true, ◌&&◌, if◌then◌else◌, Option, Some, None, List, [], ◌∷◌, ◌++◌, map}
+use Rattle.std.specs.Prelude.{ℕ, Bool, if◌then◌else◌, Option, Some, None, List, [], ◌∷◌, ◌++◌, map}
 use Rattle.std.specs.List.{flat_map, list_all}
 use Rattle.std.specs.Str.{bytes_eq}
 use Rattle.case_check.specs.Shapes.{Choice, Wanted, Wanteds, Literal, AndWanted, Shape, Shapes, Hole, OtherLiteral, AndShape, holes}

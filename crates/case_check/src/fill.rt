@@ -5,7 +5,7 @@ ghost use Rattle.case_check.specs.Search as spec;
 ghost use Rattle.case_check.specs.Trees.{shape_of, shapes_of, wanted_of};
 
 use crate::form::Form;
-use crate::skeleton::{copies, in_front, one, some_holes, Skeleton};
+use crate::skeleton::{Skeleton, copies, in_front, one, some_holes};
 use elm_base::{Name, NoMemory};
 use sqlite_items::Items;
 use std::alloc::Global;
@@ -215,11 +215,5 @@ fn filled_first(
     let mut firsts = Items::new(alloc);
     push_filled(alloc, skeleton, form, &mut firsts)?;
     let lists = filled_at(alloc, others, more)?;
-    all_filled(
-        alloc,
-        skeleton,
-        others,
-        firsts.as_slice(),
-        lists.as_slice(),
-    )
+    all_filled(alloc, skeleton, others, firsts.as_slice(), lists.as_slice())
 }

@@ -1,17 +1,19 @@
-//! Missing cases.
-//! The functions here have no work to do: their contracts state laws of the definitions.
+//! Missing cases: values that no pattern of a list fits.
 #![tactic(auto)]
 
+mod asked;
 mod belong;
 mod cases;
 mod clash;
 mod fill;
 mod form;
+mod found;
 mod laws;
 mod search;
 mod skeleton;
 
 pub use cases::{cases_are_sought, skeletons_are_missing, skeletons_clash};
 pub use form::Form;
+pub use found::missing;
 pub use laws::what_is_found_is_missing;
 pub use skeleton::Skeleton;

@@ -8,7 +8,7 @@ use crate::belong::belongs_everywhere;
 use crate::clash::clashes;
 use crate::fill::push_filled;
 use crate::form::Form;
-use crate::skeleton::{one, Skeleton};
+use crate::skeleton::{Skeleton, one};
 use elm_base::NoMemory;
 use sqlite_items::Items;
 use std::alloc::Global;
