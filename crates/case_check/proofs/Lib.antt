@@ -2,3 +2,4 @@ pub mod Refining
 pub mod Exact
 pub mod Counting
 pub mod Fronts
+pub mod Standing

@@ -4,3 +4,4 @@ pub mod Asked
 pub mod Search
 pub mod Examples
 pub mod Trees
+pub mod Warnings

@@ -6,7 +6,8 @@ use Rattle.case_check.specs.declared.form.Form.TheFolds.{fold-Form}
 use Rattle.case_check.specs.declared.skeleton.Skeleton.{Skeleton}
 use Rattle.case_check.specs.declared.skeleton.Skeleton.TheOpen as skeleton
 use Rattle.case_check.specs.declared.skeleton.Skeleton.TheFolds.{fold-Skeleton}
-use Rattle.case_check.specs.Shapes.{Wanted, Anything, Literal, Shape, Shapes, Hole, OtherLiteral, wanteds, shapes}
+use Rattle.case_check.specs.Search.{filled_at}
+use Rattle.case_check.specs.Shapes.{Wanted, Wanteds, Anything, Literal, Shape, Shapes, Hole, OtherLiteral, wanteds, shapes}
 
 abbrev pub wanted_step : form.Form-F Wanted → Wanted
 wanted_step form.Anything = Anything
@@ -15,6 +16,13 @@ wanted_step (form.Made union constructor parts) = Wanted.Made union constructor 
 
 abbrev pub wanted_of : Form → Wanted
 wanted_of = fold-Form Wanted wanted_step
+
+abbrev pub wanteds_of : List Form → Wanteds
+wanteds_of forms = wanteds (map wanted_of forms)
+
+-- arguments, filled in against these patterns
+abbrev pub filler : List Form → Shapes → List Shapes
+filler forms = λ ss. filled_at ss (wanteds_of forms)
 
 abbrev pub shape_step : skeleton.Skeleton-F Shape → Shape
 shape_step skeleton.Hole = Hole

@@ -213,7 +213,8 @@ pub(crate) fn forms_of(
     module: &Name,
     patterns: &[Pattern],
 ) -> Result<Items<Form>, NoMemory>
-    ensures { IfOk result (λ forms. map wanted_of forms ≡ map (spec.asked typed.now «module».now) patterns.now) }
+    ensures { IfOk result (λ forms. map wanted_of forms
+        ≡ map (spec.asked typed.now «module».now) patterns.now) }
 {
     let mut forms = Items::new(alloc);
     for pattern in patterns {

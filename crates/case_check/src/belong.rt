@@ -1,9 +1,9 @@
 //! Whether the constructors of a skeleton are of the unions that stand in a pattern.
 ghost use Rattle.std.specs.Prelude.{◌≡◌, map};
-ghost use Rattle.case_check.specs.Shapes.{count, wanteds};
+ghost use Rattle.case_check.specs.Shapes.{count};
 ghost use Rattle.case_check.specs.Missing as spec;
 ghost use Rattle.case_check.specs.Search.{belongs_to_all};
-ghost use Rattle.case_check.specs.Trees.{shape_of, shapes_of, wanted_of};
+ghost use Rattle.case_check.specs.Trees.{shape_of, shapes_of, wanted_of, wanteds_of};
 
 use crate::form::Form;
 use crate::skeleton::Skeleton;
@@ -52,7 +52,7 @@ fn belongs(skeleton: &Skeleton, form: &Form) -> bool
 
 #[cycle(belong)]
 fn belong_at(skeletons: &[Skeleton], forms: &[Form]) -> bool
-    ensures { result ≡ spec.belong_at (shapes_of skeletons.now) (wanteds (map wanted_of forms.now)) }
+    ensures { result ≡ spec.belong_at (shapes_of skeletons.now) (wanteds_of forms.now) }
 {
     match (skeletons, forms) {
         ([skeleton, skeletons @ ..], [form, forms @ ..]) => {

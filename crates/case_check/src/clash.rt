@@ -1,8 +1,7 @@
 //! Whether a skeleton clashes with a pattern.
 ghost use Rattle.std.specs.Prelude.{◌≡◌, map};
-ghost use Rattle.case_check.specs.Shapes.{wanteds};
 ghost use Rattle.case_check.specs.Missing as spec;
-ghost use Rattle.case_check.specs.Trees.{shape_of, shapes_of, wanted_of};
+ghost use Rattle.case_check.specs.Trees.{shape_of, shapes_of, wanted_of, wanteds_of};
 
 use crate::form::Form;
 use crate::skeleton::Skeleton;
@@ -30,7 +29,7 @@ pub(crate) fn clashes(skeleton: &Skeleton, form: &Form) -> bool
 
 #[cycle(clash)]
 fn clash_at(skeletons: &[Skeleton], forms: &[Form]) -> bool
-    ensures { result ≡ spec.clash_at (shapes_of skeletons.now) (wanteds (map wanted_of forms.now)) }
+    ensures { result ≡ spec.clash_at (shapes_of skeletons.now) (wanteds_of forms.now) }
 {
     match (skeletons, forms) {
         ([skeleton, skeletons @ ..], [form, forms @ ..]) => {

@@ -1,8 +1,8 @@
 //! Skeletons that are filled in at one place so that they clash with a pattern.
 ghost use Rattle.std.specs.Prelude.{◌≡◌, ◌++◌, IfOk, OnOk, map};
-ghost use Rattle.case_check.specs.Shapes.{AndShape, AndWanted, Shape, wanteds};
+ghost use Rattle.case_check.specs.Shapes.{AndShape, AndWanted, Shape};
 ghost use Rattle.case_check.specs.Search as spec;
-ghost use Rattle.case_check.specs.Trees.{shape_of, shapes_of, wanted_of};
+ghost use Rattle.case_check.specs.Trees.{filler, shape_of, shapes_of, wanted_of, wanteds_of};
 
 use crate::form::Form;
 use crate::skeleton::{Skeleton, copies, in_front, one, some_holes};
@@ -130,7 +130,7 @@ fn push_filled_choices(
     out: &mut Items<Skeleton>,
 ) -> Result<(), NoMemory>
     ensures { OnOk result (map shape_of out.new ≡ map shape_of out.old
-        ++ spec.filled_choices union.now wanted.now (λ z. spec.filled_at z (wanteds (map wanted_of asked.now)))) }
+        ++ spec.filled_choices union.now wanted.now (filler asked.now)) }
 {
     match union {
         [] => Ok(()),
@@ -151,7 +151,7 @@ fn push_filled_choice(
     out: &mut Items<Skeleton>,
 ) -> Result<(), NoMemory>
     ensures { OnOk result (map shape_of out.new ≡ map shape_of out.old
-        ++ spec.filled_choice choice.now wanted.now (λ z. spec.filled_at z (wanteds (map wanted_of asked.now)))) }
+        ++ spec.filled_choice choice.now wanted.now (filler asked.now)) }
 {
     let holes = some_holes(alloc, choice.1)?;
     push_filled_made(alloc, &choice.0, holes.as_slice(), wanted, asked, out)
@@ -168,7 +168,7 @@ fn push_filled_made(
     out: &mut Items<Skeleton>,
 ) -> Result<(), NoMemory>
     ensures { OnOk result (map shape_of out.new ≡ map shape_of out.old
-        ++ spec.filled_made name.now (shapes_of skeletons.now) wanted.now (λ z. spec.filled_at z (wanteds (map wanted_of asked.now)))) }
+        ++ spec.filled_made name.now (shapes_of skeletons.now) wanted.now (filler asked.now)) }
 {
     if name.bytes() == wanted.bytes() {
         let lists = filled_at(alloc, skeletons, asked)?;
@@ -189,7 +189,7 @@ fn filled_at(
     forms: &[Form],
 ) -> Result<Items<Items<Skeleton>>, NoMemory>
     ensures { IfOk result (λ found. map shapes_of found
-        ≡ spec.filled_at (shapes_of skeletons.now) (wanteds (map wanted_of forms.now))) }
+        ≡ spec.filled_at (shapes_of skeletons.now) (wanteds_of forms.now)) }
 {
     match (skeletons, forms) {
         ([skeleton, others @ ..], [form, more @ ..]) => {
@@ -210,7 +210,7 @@ fn filled_first(
 ) -> Result<Items<Items<Skeleton>>, NoMemory>
     ensures { IfOk result (λ found. map shapes_of found
         ≡ spec.filled_at (AndShape (shape_of skeleton.now) (shapes_of others.now))
-        (AndWanted (wanted_of form.now) (wanteds (map wanted_of more.now)))) }
+        (AndWanted (wanted_of form.now) (wanteds_of more.now))) }
 {
     let mut firsts = Items::new(alloc);
     push_filled(alloc, skeleton, form, &mut firsts)?;

@@ -48,7 +48,8 @@ fn split_all(
 
 /// What is left of a hole after the patterns.
 fn left_after(alloc: Global, forms: &[Form]) -> Result<Items<Skeleton>, NoMemory>
-    ensures { IfOk result (λ found. map shape_of found ≡ spec.left_after (Hole ∷ []) (map wanted_of forms.now)) }
+    ensures { IfOk result (λ found. map shape_of found
+        ≡ spec.left_after (Hole ∷ []) (map wanted_of forms.now)) }
 {
     let mut left = one(alloc, Skeleton::Hole)?;
     let mut rest = forms;
@@ -65,7 +66,8 @@ fn first_of(
     forms: &[Form],
     skeletons: &[Skeleton],
 ) -> Result<Option<Skeleton>, NoMemory>
-    ensures { IfOk result (λ found. option_shape found ≡ spec.first_of (map wanted_of forms.now) (map shape_of skeletons.now)) }
+    ensures { IfOk result (λ found. option_shape found
+        ≡ spec.first_of (map wanted_of forms.now) (map shape_of skeletons.now)) }
 {
     let mut rest = skeletons;
     while let [skeleton, more @ ..] = rest {
