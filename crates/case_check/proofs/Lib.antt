@@ -1,0 +1,5 @@
+pub mod Refining
+pub mod Exact
+pub mod Counting
+pub mod Fronts
+pub mod Standing
