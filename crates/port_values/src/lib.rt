@@ -7,6 +7,6 @@ mod print;
 mod worked;
 
 pub use defaults::default_of;
-pub use laws::default_is_of_its_type;
+pub use laws::{default_is_of_its_type, printed_leaves_are_their_literals};
 pub use print::print_value;
-pub use worked::values_are_as_worked;
+pub use worked::{leaves_are_as_worked, values_are_as_worked};
