@@ -5,3 +5,5 @@ pub mod Leaves
 pub mod Laws
 pub mod Worked
 pub mod LeafCases
+pub mod Literals
+pub mod LiteralCases
