@@ -1,0 +1,9 @@
+pub mod Values
+pub mod Defaults
+pub mod ValueText
+pub mod Leaves
+pub mod Laws
+pub mod Worked
+pub mod LeafCases
+pub mod Literals
+pub mod LiteralCases
