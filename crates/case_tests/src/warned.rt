@@ -33,7 +33,7 @@ const ROWS: [(&str, &str); 16] = [
     ("f (Just x) = x", "7:3;"),
     ("f x (Just y) True = x", "7:5;7:14;"),
     ("f = \\True (x, False) -> x", "7:6;7:11;"),
-    ("f = let (Just x) = f in x", "7:9;"),
+    ("f = let (Just x, y) = f in x", "7:9;"),
     ("f = let (x, y) = f in x", ""),
     ("f = let g True = f in g", "7:11;"),
     (
