@@ -12,7 +12,8 @@ use std::fmt::Write;
 use std::test::Fail;
 
 /// The unions, in the first six lines of each module.
-const TYPES: &str = "type Bool = True | False\ntype Maybe a = Just a | Nothing\ntype Color = Red | Green | Blue\ntype Pair a b = Both a b\ntype Tree a = Leaf | Node a a a\ntype Either a b = Left a | Right b\n";
+const TYPES: &str =
+    "type Bool = True | False\ntype Maybe a = Just a | Nothing\ntype Color = Red | Green | Blue\ntype Pair a b = Both a b\ntype Tree a = Leaf | Node a a a\ntype Either a b = Left a | Right b\n";
 
 /// What stands behind them from line 7 on, and the line and column of each warning.
 const ROWS: [(&str, &str); 16] = [
@@ -40,15 +41,15 @@ const ROWS: [(&str, &str); 16] = [
         "f m =\n  case m of\n    True ->\n      case m of\n        True -> 1",
         "8:3;10:7;",
     ),
-    (
-        "f m = case (case m of\n   True -> m) of\n  x -> x",
-        "7:13;",
-    ),
+    ("f m = case (case m of\n   True -> m) of\n  x -> x", "7:13;"),
     (
         "f m = if m then g else case m of\n  True -> 1\ng True = 1",
         "7:24;9:3;",
     ),
-    ("f m = [\\Red -> 1, \\x -> case x of\n  Red -> 2]", "7:9;7:25;"),
+    (
+        "f m = [\\Red -> 1, \\x -> case x of\n  Red -> 2]",
+        "7:9;7:25;",
+    ),
     ("f m = case m of\n  Red -> 1\n  Blue -> 2\n  Green -> 3", ""),
 ];
 

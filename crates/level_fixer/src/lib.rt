@@ -7,7 +7,7 @@ mod trees;
 mod turns;
 
 pub use laws::{
-    a_chain_has_no_other_tree, a_chain_stands_for_its_tree, a_chain_without_a_tree, chains_are_seen,
-    no_chain_is_left,
+    a_chain_has_no_other_tree, a_chain_stands_for_its_tree, a_chain_without_a_tree,
+    chains_are_seen, no_chain_is_left,
 };
 pub use project::fix;

@@ -33,7 +33,12 @@ fn a_project_is_read_from_a_folder(rt: HostRuntime) -> Result<(), Fail> {
     // Without its file, a module is missing where it is first imported.
     fs::remove_file(&rt, "load_tests.project/A.elm")?;
     let missing = outcome(alloc, &mut shelf, "load_tests.project")?;
-    same(&rt, missing.as_str(), "A.B 2 MissingModule A", "three modules");
+    same(
+        &rt,
+        missing.as_str(),
+        "A.B 2 MissingModule A",
+        "three modules",
+    );
     fs::remove_dir_all(&rt, "load_tests.project")?;
     Ok(())
 }
