@@ -1,7 +1,7 @@
 #!/usr/bin/env python3
 """Times the built programs on inputs of growing size: the best of several runs counts.
 
-usage: bench/bench.py NAME..    NAME: lexer, parser, stack, modules, groups, types, arena, prims, lines, reactor
+usage: bench/bench.py NAME..    NAME: lexer, parser, stack, modules, load, groups, types, arena, prims, lines, reactor
 
 The programs are those that `rt run` leaves in crates/NAME/out. Each row has the input, the best time and the greatest
 memory of a run. Figures of a machine that is busy with other work are worth little.
@@ -132,6 +132,7 @@ BENCHES = {
     "parser": parser,
     "stack": stack,
     "modules": modules,
+    "load": by_numbers("load_bench", [(50, 2000), (100, 2000), (100, 4000)]),
     "groups": by_numbers("groups_bench", [(2500, 0), (5000, 0), (0, 2500), (0, 5000)]),
     "types": by_numbers("types_bench", [(500, 0), (1000, 0), (2000, 0), (0, 10000), (0, 20000)]),
     "prims": by_numbers("prims_bench", [(100000, 0), (200000, 0), (1000000, 0), (0, 1000000), (0, 2000000), (0, 4000000)]),
