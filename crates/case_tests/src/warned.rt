@@ -34,9 +34,9 @@ const ROWS: [(&str, &str); 16] = [
     ("f (Just x) = x", "7:3;"),
     ("f x (Just y) True = x", "7:5;7:14;"),
     ("f = \\True (x, False) -> x", "7:6;7:11;"),
-    ("f = let (Just x, y) = f in x", "7:9;"),
-    ("f = let (x, y) = f in x", ""),
-    ("f = let g True = f in g", "7:11;"),
+    ("f z = let (Just x, y) = z in x", "7:11;"),
+    ("f z = let (x, y) = z in x", ""),
+    ("f z = let g True = z in g", "7:13;"),
     (
         "f m =\n  case m of\n    True ->\n      case m of\n        True -> 1",
         "8:3;10:7;",
