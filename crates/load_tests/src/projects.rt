@@ -116,37 +116,37 @@ fn projects_are_loaded_or_refused(rt: HostRuntime) -> Result<(), Fail> {
 
 // Each fault of tokens, with a later one behind it, and with one of the declarations, of the name or of an import beside it.
 const TOKENS: [(&str, &str); 12] = [
-    ("= Main.elm\nx\n\ny = #\n", "Main 3 BadChar -"),
-    ("= Main.elm\nx = #\n\t\n", "Main 2 Tab -"),
-    ("= Main.elm\nx = #\ny = \"\n", "Main 1 BadChar -"),
-    ("= Main.elm\nx = \"\ny = #\n", "Main 1 OpenString -"),
-    ("= Main.elm\nx = 1\n{- {- -}\n\n", "Main 2 OpenComment -"),
+    ("= Main.elm\nx\n\ny=;\n", "Main 3 BadChar -"),
+    ("= Main.elm\nx=;\n\t\n", "Main 2 Tab -"),
+    ("= Main.elm\nx=;\ny=\"\n", "Main 1 BadChar -"),
+    ("= Main.elm\nx=\"\ny=;\n", "Main 1 OpenString -"),
+    ("= Main.elm\nx=1\n{- {- -}\n\n", "Main 2 OpenComment -"),
     (
-        "= Main.elm\nx = 9223372036854775808\ny = 1.5\n",
+        "= Main.elm\nx=9223372036854775808\ny=1.5\n",
         "Main 1 IntTooWide -",
     ),
     (
-        "= Main.elm\nx = 9223372036854775807\ny = 1.5\n",
+        "= Main.elm\nx=9223372036854775807\ny=1.5\n",
         "Main 2 Excluded -",
     ),
     (
-        "= Main.elm\nmodule B where\nimport C\nx = 1a\n",
+        "= Main.elm\nmodule B where\nimport C\nx=1a\n",
         "Main 3 Excluded -",
     ),
     (
-        "= Main.elm\nimport A\n= A.elm\nmodule B where\nx = '\n",
+        "= Main.elm\nimport A\n= A.elm\nmodule B where\nx='\n",
         "A 2 BadChar -",
     ),
     (
-        "= Main.elm\nimport A\nimport C\n= A.elm\nmodule A where\nx = \"\n",
+        "= Main.elm\nimport A\nimport C\n= A.elm\nmodule A where\nx=\"\n",
         "A 2 OpenString -",
     ),
     (
-        "= Main.elm\nimport A\nx = #\n= A.elm\n\t\n",
+        "= Main.elm\nimport A\nx=;\n= A.elm\n\t\n",
         "Main 2 BadChar -",
     ),
     (
-        "= Main.elm\nx = 1\nimport A\nmodule Main where\n",
+        "= Main.elm\nx=1\nimport A\nmodule Main where\n",
         "Main 2 BadHeader -",
     ),
 ];
