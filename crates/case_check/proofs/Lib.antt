@@ -3,3 +3,4 @@ pub mod Exact
 pub mod Counting
 pub mod Fronts
 pub mod Standing
+pub mod OneMore

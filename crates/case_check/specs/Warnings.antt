@@ -1,6 +1,7 @@
 -- The warnings of a typed project: one at each place at which something is missing.
-use Rattle.std.specs.Prelude.{ℕ, Option, Some, None, List, [], ◌∷◌, map}
+use Rattle.std.specs.Prelude.{◌≡◌, ℕ, ◌+◌, ◌*◌, Option, Some, None, List, [], ◌∷◌, ◌++◌, map}
 use Rattle.std.specs.List.{flat_map}
+use Rattle.std.specs.List.Sorted.{IsPermutation, IsNonDecreasingBy}
 use Rattle.elm_base.specs.declared.token.At.{At}
 use Rattle.elm_base.specs.declared.tree.Module.{Module}
 use Rattle.elm_base.specs.declared.project.Typed.{Typed}
@@ -28,5 +29,23 @@ warnings_at typed module_name places = flat_map (λ place. warning_at typed modu
 abbrev pub warnings_in : Typed → Module → List Warning
 warnings_in typed m = warnings_at typed m.name (places_of_module m)
 
-abbrev pub warnings_of : Typed → List Warning
-warnings_of typed = flat_map (λ m. warnings_in typed m) typed.resolved.project.modules
+-- a number for a line and a column, which are below 2^32, that orders places by line, and in one line by column
+abbrev pub number : ℕ → ℕ → ℕ
+number line column = line * 4294967296 + column
+
+abbrev pub place_number : Warning → ℕ
+place_number w = number w.line w.column
+
+-- all warnings of a module, by line and column
+abbrev pub AreWarningsIn : Typed → Module → List Warning → Type 0
+AreWarningsIn typed m found = IsPermutation (warnings_in typed m) found × IsNonDecreasingBy place_number found
+
+-- those of several modules, one module behind the other
+abbrev pub AreWarningsOf : Typed → List Module → List Warning → Type 0
+AreWarningsOf typed [] found = found ≡ []
+AreWarningsOf typed (m ∷ ms) found =
+    (first : List Warning) × (rest : List Warning) × (found ≡ first ++ rest) × AreWarningsIn typed m first × AreWarningsOf typed ms rest
+
+-- those of a project, in the order of its modules
+abbrev pub AreWarnings : Typed → List Warning → Type 0
+AreWarnings typed found = AreWarningsOf typed typed.resolved.project.modules found

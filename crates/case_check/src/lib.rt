@@ -16,6 +16,9 @@ mod warned;
 pub use cases::{cases_are_sought, skeletons_are_missing, skeletons_clash};
 pub use form::Form;
 pub use found::missing;
-pub use laws::{a_warning_stands_where_something_is_missing, what_is_found_is_missing};
+pub use laws::{
+    a_warning_stands_where_something_is_missing, warnings_stand_by_line_and_column,
+    what_is_found_is_missing,
+};
 pub use skeleton::Skeleton;
 pub use warned::warnings;

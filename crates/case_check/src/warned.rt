@@ -1,5 +1,6 @@
 //! The places of a project at which a case is missing.
-ghost use Rattle.std.specs.Prelude.{◌≡◌, ◌++◌, IfOk, OnOk, map};
+ghost use Rattle.std.specs.Prelude.{◌≡◌, ◌++◌, IfOk, OnOk};
+ghost use Rattle.std.specs.List.Sorted.{IsPermutation, IsNonDecreasingBy};
 ghost use Rattle.case_check.specs.Warnings as spec;
 
 use crate::asked::forms_of;
@@ -15,9 +16,9 @@ fn push_warning(
     typed: &Typed,
     module: &Name,
     place: &Place,
-    out: &mut Items<Warning>,
+    out: &mut Vec<Warning>,
 ) -> Result<(), NoMemory>
-    ensures { OnOk result (out.new ≡ out.old ++ spec.warning_at typed.now «module».now place.now) }
+    ensures { OnOk result (out.new.items ≡ out.old.items ++ spec.warning_at typed.now «module».now place.now) }
 {
     let forms = forms_of(alloc, typed, module, place.patterns.as_slice())?;
     match missing_of(alloc, forms.as_slice())? {
@@ -34,27 +35,14 @@ fn push_warning(
     }
 }
 
-fn push_warnings(
-    alloc: Global,
-    typed: &Typed,
-    module: &Module,
-    out: &mut Items<Warning>,
-) -> Result<(), NoMemory>
-    ensures { OnOk result (out.new ≡ out.old ++ spec.warnings_in typed.now «module».now) }
-{
-    let mut places = Items::new(alloc);
-    push_places(alloc, module, &mut places)?;
-    push_all_warnings(alloc, typed, &module.name, places.as_slice(), out)
-}
-
 fn push_all_warnings(
     alloc: Global,
     typed: &Typed,
     module: &Name,
     places: &[Place],
-    out: &mut Items<Warning>,
+    out: &mut Vec<Warning>,
 ) -> Result<(), NoMemory>
-    ensures { OnOk result (out.new ≡ out.old ++ spec.warnings_at typed.now «module».now places.now) }
+    ensures { OnOk result (out.new.items ≡ out.old.items ++ spec.warnings_at typed.now «module».now places.now) }
 {
     for place in places {
         push_warning(alloc, typed, module, place, out)?;
@@ -62,13 +50,40 @@ fn push_all_warnings(
     Ok(())
 }
 
-/// A warning at each place at which something is missing, in the order of modules and from left to right.
+fn number(line: u32, column: u32) -> u64
+    ensures { result ≡ spec.number line column }
+{
+    u64::from(line) * (1 << 32) + u64::from(column)
+}
+
+fn sort(warnings: &mut Vec<Warning>) -> Result<(), NoMemory>
+    ensures all { OnOk result (IsPermutation warnings.old.items warnings.new.items) }
+    ensures sorted { OnOk result (IsNonDecreasingBy spec.place_number warnings.new.items) }
+{
+    warnings.sort_by_key(|warning| number(warning.line, warning.column))?;
+    Ok(())
+}
+
+/// The warnings of a module, by line and column.
+fn warnings_in(alloc: Global, typed: &Typed, module: &Module) -> Result<Items<Warning>, NoMemory>
+    ensures { IfOk result (λ found. spec.AreWarningsIn typed.now «module».now found) }
+{
+    let mut places = Items::new(alloc);
+    push_places(alloc, module, &mut places)?;
+    let mut found = Vec::new(alloc);
+    push_all_warnings(alloc, typed, &module.name, places.as_slice(), &mut found)?;
+    sort(&mut found)?;
+    Ok(Items::from_vec(found))
+}
+
+/// A warning at each place at which something is missing, in the order of modules, in each by line and column.
 pub fn warnings(alloc: Global, typed: &Typed) -> Result<Items<Warning>, NoMemory>
-    ensures { IfOk result (λ found. found ≡ spec.warnings_of typed.now) }
+    ensures { IfOk result (λ found. spec.AreWarnings typed.now found) }
 {
     let mut found = Items::new(alloc);
     for module in typed.resolved.project.modules.as_slice() {
-        push_warnings(alloc, typed, module, &mut found)?;
+        let more = warnings_in(alloc, typed, module)?;
+        found.append(more)?;
     }
     Ok(found)
 }
