@@ -2,7 +2,9 @@
 #![tactic(auto)]
 
 mod counter;
+mod recording;
 #[cfg(test)]
 mod tests;
 
 pub use counter::{Counter, CounterMark};
+pub use recording::record;

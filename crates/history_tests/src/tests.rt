@@ -1,6 +1,6 @@
 ghost use Rattle.std.specs.Prelude.{◌≡◌, ◌<◌};
 
-use crate::Counter;
+use crate::{Counter, record};
 use elm_base::{NoMemory, Steps};
 use snapshots::History;
 use std::alloc::Global;
@@ -41,9 +41,7 @@ fn rewinds<L: Ledger>(
     let mut steps = Steps::<L>::from_blank(blank);
     let mut history = History::new(alloc, Counter::new(0), every)?;
     for event in 0..events {
-        if history.cursor() == history.events().len() {
-            history.push(event, &mut steps)?;
-        }
+        record(&mut history, event, &mut steps)?;
     }
     let mut found = Vec::new(alloc);
     for cursor in cursors.iter() {
