@@ -1,10 +1,10 @@
+use crate::same;
 use elm_base::native;
 use std::cmp::Ordering;
-use std::test::Fail;
 use value_prims::{Computed, Numeric, on_numbers};
 
 #[test]
-fn natives_on_two_numbers(rt: HostRuntime) -> Result<(), Fail> {
+fn natives_on_two_numbers(rt: HostRuntime) {
     let rows = [
         (native::ADD, 2, 3, Numeric::Int(5), 0),
         (native::ADD, i64::MAX, 1, Numeric::IntRange, 0),
@@ -32,9 +32,19 @@ fn natives_on_two_numbers(rt: HostRuntime) -> Result<(), Fail> {
         (native::COMPARE, 3, 2, Numeric::Order(Ordering::Greater), 1),
     ];
     for (number, a, b, answer, work) in rows {
-        assert_eq!(rt; on_numbers(number, a, b), Some(Computed { answer, work }));
+        same(
+            &rt,
+            on_numbers(number, a, b),
+            Some(Computed { answer, work }),
+            "two numbers",
+        );
     }
-    assert_eq!(rt; on_numbers(native::NEGATE, 1, 2), None);
-    assert_eq!(rt; on_numbers(native::SPACER, 1, 2), None);
-    Ok(())
+    for other in [native::NEGATE, native::SPACER] {
+        same(
+            &rt,
+            on_numbers(other, 1, 2),
+            None,
+            "no native on two numbers",
+        );
+    }
 }
