@@ -1,0 +1,2 @@
+pub mod FromMarks
+pub mod ToMarks
