@@ -1,2 +1,3 @@
 pub mod FromMarks
+pub mod Least
 pub mod ToMarks

@@ -16,7 +16,7 @@ use Rattle.typing_rules.specs.WrittenTypes.{Written, Writtens, WrittenFields, Va
 use Rattle.written_sorts.specs.Sorting.{HasWellSorted, is_plain}
 use Rattle.written_sorts.specs.Marks.{Marks, is_signal, at_most, simple_before, holds, all_simple, fields_simple, CanBeSorted}
 
-both_of : (a b : Bool) → a ≡ true → b ≡ true → (a && b) ≡ true
+pub both_of : (a b : Bool) → a ≡ true → b ≡ true → (a && b) ≡ true
 both_of true b e f = f
 both_of false b e f = absurd (false≢true e)
 

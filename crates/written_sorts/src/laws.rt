@@ -1,9 +1,10 @@
 //! Laws of the definitions. The bodies are empty: what is stated holds of the definitions.
-ghost use Rattle.std.specs.Prelude.{◌≡◌, ◌↔◌, true, false, [], ◌∷◌};
+ghost use Rattle.std.specs.Prelude.{◌≡◌, ◌↔◌, ℕ, true, false, List, [], ◌∷◌};
 ghost use Rattle.typing_rules.specs.Library.{a_, b_, int_, list_, maybe_, signal_, variable, from, writtens};
 ghost use Rattle.typing_rules.specs.WrittenTypes.{Written, Arrow, Tuple};
 ghost use Rattle.written_sorts.specs.Sorting.{HasWellSorted, bars_hold};
 ghost use Rattle.written_sorts.specs.Marks.{Marks, CanBeSorted, holds};
+ghost use Rattle.written_sorts.specs.Forced.{AllMarked, AreForced, forced, marks_of};
 ghost use Rattle.written_sorts.specs.Spelled.{none, only, over, record_of};
 
 /// Where each variable before a bar is free, some instance of a written type is well sorted exactly where some choice of sorts
@@ -46,4 +47,14 @@ pub fn types_without_sense()
     ensures flagged_before_bar { bars_hold (over "comparable" int_) ≡ false }
     ensures joined_before_bar { bars_hold (list_ (over "compappend2" int_)) ≡ false }
     ensures number_before_bar { bars_hold (over "number" int_) ≡ false }
+{}
+
+/// Variables that have to be of sort signal: those that are forced by such ones have to be, too; and where no further one is
+/// forced, they alone decide whether any sorts make the type well sorted.
+pub fn forced_variables_decide()
+    ensures further { (written : Written) (names : List (List ℕ)) → AreForced written names
+        → AreForced written (forced (marks_of names) written) }
+    ensures decide { (written : Written) (names : List (List ℕ)) → AreForced written names
+        → AllMarked (marks_of names) (forced (marks_of names) written)
+        → CanBeSorted written ↔ (holds (marks_of names) written ≡ true) }
 {}
