@@ -1,0 +1,4 @@
+pub mod Parts
+pub mod Instances
+pub mod Expansion
+pub mod Table

@@ -1,0 +1,3 @@
+pub mod FromMarks
+pub mod Least
+pub mod ToMarks

@@ -1,0 +1,4 @@
+pub mod Sorting
+pub mod Marks
+pub mod Spelled
+pub mod Forced
