@@ -244,7 +244,7 @@ fn put_lists(text: &mut String, depth: u32) -> Result<(), AllocError> {
     put_times(text, ")", depth)
 }
 
-/// A record whose text has as many bytes as this, and 4,000 more.
+/// A record whose text has 3,881 bytes, and as many more as this.
 fn put_record(text: &mut String, more: u32) -> Result<(), AllocError> {
     text.push_str("port p : Signal { ")?;
     for number in 10..25u32 {
@@ -253,7 +253,7 @@ fn put_record(text: &mut String, more: u32) -> Result<(), AllocError> {
         text.push_str(" : Int, ")?;
     }
     text.push_str("z")?;
-    put_times(text, "b", 119 + more)?;
+    put_times(text, "b", more)?;
     text.push_str(" : Int }")
 }
 
@@ -282,7 +282,7 @@ fn ports_at_their_limits(rt: HostRuntime) -> Result<(), Fail> {
     let alloc = rt.alloc();
     let nesting = (takes_lists(alloc, 32)?, takes_lists(alloc, 33)?);
     assert_eq!(&rt; nesting, (true, false));
-    let bytes = (takes_record(alloc, 96)?, takes_record(alloc, 97)?);
+    let bytes = (takes_record(alloc, 215)?, takes_record(alloc, 216)?);
     assert_eq!(&rt; bytes, (true, false));
     Ok(())
 }
