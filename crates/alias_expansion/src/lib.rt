@@ -8,7 +8,7 @@ mod plain_alias;
 mod room;
 mod table;
 
-pub use expansion::plain;
+pub use expansion::{knows, plain};
 pub use plain_alias::PlainAlias;
 pub use room::Room;
 pub use table::plain_aliases;

@@ -4,7 +4,7 @@ ghost use Rattle.std.specs.Prelude.{◌≡◌, ◌+◌, OnOk};
 use elm_base::{NoMemory, Spot, TypeTree};
 
 /// As many parts of types as aliases may add in all.
-const LARGEST: usize = 2_097_152;
+const LARGEST: usize = 524_288;
 
 /// So deep may nest what an alias adds.
 const DEEPEST: usize = 1000;

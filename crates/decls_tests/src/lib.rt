@@ -2,6 +2,10 @@
 #![tactic(auto)]
 
 #[cfg(test)]
+mod expansions;
+#[cfg(test)]
+mod ports;
+#[cfg(test)]
 mod projects;
 #[cfg(test)]
 mod rows;

@@ -12,7 +12,7 @@ use type_faults::text_fault;
 
 /// Types of the library that the rows name.
 const LIBRARY: [&str; 3] = [
-    "module Basics where\ntype Bool = False | True\ntype Int = AnInt\ntype List a = AList a",
+    "module Basics where\ntype Bool = False | True\ntype Int = AnInt\ntype Char = AChar\ntype String = AString\ntype List a = AList a",
     "module Maybe where\ntype Maybe a = Nothing | Just a",
     "module Signal where\ntype Signal a = ASignal a",
 ];
@@ -23,7 +23,7 @@ fn read(alloc: Global, text: &str) -> Result<Module, Fail> {
     Ok(tree)
 }
 
-fn put_modules(alloc: Global, text: &str, out: &mut Items<Module>) -> Result<(), Fail> {
+pub fn put_modules(alloc: Global, text: &str, out: &mut Items<Module>) -> Result<(), Fail> {
     for part in LIBRARY {
         out.push(read(alloc, part)?)?;
     }
@@ -33,7 +33,7 @@ fn put_modules(alloc: Global, text: &str, out: &mut Items<Module>) -> Result<(),
     Ok(())
 }
 
-fn put_name(text: &mut String, name: &Name) -> Result<(), NoMemory> {
+pub fn put_name(text: &mut String, name: &Name) -> Result<(), NoMemory> {
     text.push_str(str::from_utf8(name.bytes()).unwrap_or("?"))?;
     Ok(())
 }

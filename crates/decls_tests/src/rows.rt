@@ -325,7 +325,7 @@ fn put_doubled(text: &mut String) -> Result<(), AllocError> {
     Ok(())
 }
 
-fn doubled(alloc: Global) -> Result<String, AllocError> {
+pub fn doubled(alloc: Global) -> Result<String, AllocError> {
     let mut text = String::new(alloc);
     put_doubled(&mut text)?;
     Ok(text)

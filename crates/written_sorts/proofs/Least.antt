@@ -11,7 +11,7 @@ use Rattle.written_sorts.specs.Forced.{is_called, marks_of, end_of, where_signal
 use Rattle.written_sorts.proofs.FromMarks.{left_of, right_of, no_mark}
 use Rattle.written_sorts.proofs.ToMarks.{both_of}
 
-all_append : (marks : Marks) (xs ys : List (List ℕ)) → AllMarked marks xs → AllMarked marks ys → AllMarked marks (xs ++ ys)
+pub all_append : (marks : Marks) (xs ys : List (List ℕ)) → AllMarked marks xs → AllMarked marks ys → AllMarked marks (xs ++ ys)
 all_append marks [] ys one two = two
 all_append marks (x ∷ xs) ys one two = (one.0, all_append marks xs ys one.1 two)
 
