@@ -114,9 +114,14 @@ fn flows_grow(rt: HostRuntime) {
     ];
     for (direction, width, height) in rows {
         let one = grown(direction, none, 2, 1);
+        assert!(rt;
+            one == Size {
+                width: 2,
+                height: 1
+            }
+        );
         let two = grown(direction, one, 3, 2);
-        let found = ((one.width, one.height), (two.width, two.height));
-        same(&rt, found, ((2, 1), (width, height)), "grown");
+        same(&rt, (two.width, two.height), (width, height), "grown");
     }
 }
 
