@@ -8,6 +8,7 @@ use std::alloc::{AllocError, Global};
 use std::process::Abort;
 use std::test::Fail;
 use type_names::known_types;
+use type_sense::alias_makes_sense;
 
 #[cycle(shown)]
 fn put_type(text: &mut String, tree: &TypeTree) -> Result<(), NoMemory> {
@@ -214,6 +215,70 @@ const MISSING: [Row; 9] = [
         "",
     ),
 ];
+
+/// Whether the texts of aliases make sense, their parameters being variables.
+const SENSES: [Row; 8] = [
+    ("type alias A a = Signal a", "A sense; "),
+    ("type alias A = Signal (Signal Int)", "A none; "),
+    ("type alias A a = { a | x : Int }", "A sense; "),
+    ("type alias A number = { number | x : Int }", "A sense; "),
+    (
+        "type alias A comparable = { comparable | x : Int }",
+        "A none; ",
+    ),
+    ("type alias A number2 = Signal Int -> number2", "A sense; "),
+    (
+        "type alias A comparable = Signal Int -> comparable",
+        "A none; ",
+    ),
+    (
+        "type alias P a = { a | x : Int }\ntype alias A = P Int",
+        "P sense; A no type; ",
+    ),
+];
+
+fn put_sense(alloc: Global, written: &Option<TypeTree>, text: &mut String) -> Result<(), NoMemory> {
+    match written {
+        None => text.push_str(" no type; ")?,
+        Some(tree) => {
+            let sense = if alias_makes_sense(alloc, tree)? {
+                " sense; "
+            } else {
+                " none; "
+            };
+            text.push_str(sense)?;
+        }
+    }
+    Ok(())
+}
+
+fn put_senses(alloc: Global, modules: &[Module], text: &mut String) -> Result<(), NoMemory> {
+    let types = known_types(alloc, modules)?;
+    let aliases = plain_aliases(alloc, types.as_slice(), modules)?;
+    for alias in aliases.as_slice() {
+        put_name(text, &alias.name)?;
+        put_sense(alloc, &alias.written, text)?;
+    }
+    Ok(())
+}
+
+fn expect_senses(rt: &impl Abort, alloc: Global, given: &str, wanted: &str) -> Result<(), Fail> {
+    let mut modules = Items::new(alloc);
+    put_modules(alloc, given, &mut modules)?;
+    let mut text = String::new(alloc);
+    put_senses(alloc, modules.as_slice(), &mut text)?;
+    assert_eq!(rt; text.as_str(), wanted, "in {given}");
+    Ok(())
+}
+
+#[test]
+fn aliases_with_and_without_sense(rt: HostRuntime) -> Result<(), Fail> {
+    let alloc = rt.alloc();
+    for (given, wanted) in SENSES {
+        expect_senses(&rt, alloc, given, wanted)?;
+    }
+    Ok(())
+}
 
 fn go_through(rt: &impl Abort, alloc: Global, rows: &[Row]) -> Result<(), Fail> {
     for (given, wanted) in rows {

@@ -25,7 +25,7 @@ pub fn is_marked(marks: &[Name], name: &[u8]) -> bool
 }
 
 /// Whether the name begins with these letters.
-fn begins(letters: &[u8], name: &[u8]) -> bool
+pub fn begins(letters: &[u8], name: &[u8]) -> bool
     ensures { result ≡ begins_with letters.now name.now }
 {
     let mut left = letters;

@@ -3,6 +3,7 @@
 
 mod judged;
 mod judging;
+mod parameters;
 mod sense;
 
-pub use sense::makes_sense;
+pub use sense::{alias_makes_sense, makes_sense};

@@ -3,10 +3,12 @@ ghost use Rattle.std.specs.Prelude.{◌≡◌, ◌↔◌, ◌&&◌, IfOk, true};
 ghost use Rattle.std.specs.List.{list_all};
 ghost use Rattle.written_sorts.specs.Sorting.{MakesSense};
 ghost use Rattle.written_sorts.specs.Forced.{marks_of};
+ghost use Rattle.type_sense.specs.Parameters as parameters;
 ghost use Rattle.type_sense.specs.WrittenOf.{written_of};
 
 use crate::judged::Judged;
 use crate::judging::{is_marked, judge};
+use crate::parameters::with_parameters;
 use elm_base::{Name, NoMemory, TypeTree};
 use sqlite_items::Items;
 use std::alloc::Global;
@@ -43,4 +45,13 @@ pub fn makes_sense(alloc: Global, tree: &TypeTree) -> Result<bool, NoMemory>
     }
     // Each turn marked a variable: so many don't fit in memory.
     Err(NoMemory)
+}
+
+/// Whether the text of an alias makes sense, its parameters being variables of which a name that begins with `number` says nothing.
+pub fn alias_makes_sense(alloc: Global, tree: &TypeTree) -> Result<bool, NoMemory>
+    ensures { IfOk result (λ sense. (sense ≡ true)
+        ↔ MakesSense (written_of (parameters.with_parameters tree.now))) }
+{
+    let renamed = with_parameters(alloc, tree)?;
+    makes_sense(alloc, &renamed)
 }
