@@ -1,0 +1,12 @@
+pub mod Texts
+pub mod Cuts
+pub mod Values
+pub mod Closed
+pub mod Complete
+pub mod Sound
+pub mod Unique
+pub mod Printed
+pub mod Turns
+pub mod Integers
+pub mod Wholes
+pub mod PortLaws
