@@ -151,7 +151,8 @@ fn list_value(
     text: &[u8],
 ) -> Result<PortValue, Halt<BadValue>>
     ensures { Reads (option_map value.List
-        (spec.owned (spec.read_each (spec.read port.now)) room (spec.between 91 93 text.now))) result }
+        (spec.owned (spec.read_each (spec.read port.now)) room
+        (spec.between 91 93 text.now))) result }
 {
     let parts = own_parts(alloc, b'[', b']', room, text)?;
     let values = each_value(alloc, port, fewer(room), parts.as_slice())?;
@@ -166,7 +167,8 @@ fn tuple_value(
     text: &[u8],
 ) -> Result<PortValue, Halt<BadValue>>
     ensures { Reads (option_map value.Tuple
-        (spec.owned (spec.read_all (map spec.read ports.now)) room (spec.between 40 41 text.now))) result }
+        (spec.owned (spec.read_all (map spec.read ports.now)) room
+        (spec.between 40 41 text.now))) result }
 {
     let parts = own_parts(alloc, b'(', b')', room, text)?;
     let values = all_values(alloc, ports, fewer(room), parts.as_slice())?;
@@ -246,7 +248,8 @@ fn field_values(
     parts: &[&[u8]],
 ) -> Result<Vec<(Name, PortValue)>, Halt<BadValue>>
     ensures { ReadsAs (λ fields. fields.items)
-        (spec.read_fields (map reader_field ports.now) room (map (λ one. one.now) parts.now)) result }
+        (spec.read_fields (map reader_field ports.now) room
+        (map (λ one. one.now) parts.now)) result }
 {
     let mut fields = Vec::new(alloc);
     for (label, port) in ports {
