@@ -9,7 +9,7 @@ use Rattle.type_terms.specs.declared.node.Node.{Node}
 use Rattle.type_terms.specs.declared.node.Node.TheVariants.{End, Link}
 use Rattle.type_terms.specs.declared.shape.Shape.TheVariants as shape
 use Rattle.type_terms.specs.Terms.{node_at, below, Each, IsLink, IsRest, LinksTo, itself, further}
-use Rattle.type_terms.specs.Solutions.{Assignment, Solves, FitsNode, MayBeRest}
+use Rattle.type_terms.specs.Solutions.{Assignment, Solves, FitsNode, MayBeRest, AllowsChoice, IsAsChosen}
 use Rattle.type_terms.specs.Depth.{EndsWithin, IsSound}
 use Rattle.type_terms.proofs.Composed.{LeafFits, RestType, IsRecord, node_type, leaf-fits, rest-type, composed, composed-is, composed-solves}
 use Rattle.type_terms.proofs.Pushed.{inside-other}
@@ -158,4 +158,46 @@ variables-free nodes bound one choice sound solves order =
           composed-is nodes chosen bound i (sound.deep i)
           ∙ ap (node_type (chosen i) (composed nodes chosen bound)) e
           ∙ (at i).free e not,
+    )
+
+-- each variable may be chosen --
+
+-- of a variable the type that is chosen, and of all else that of one solution
+record ChosenLeaf (nodes : List Node) (had choice : Ground) (i : ℕ) (node : Node) : Type 0 where
+  type : Ground
+  order : InOrder type
+  fits : LeafFits (IsRest nodes i) type node
+  rest : IsRest nodes i → RestType type node
+  chosen : (t : Ground) (s : Assignment) → t ≡ node_type type s node → IsAsChosen had choice t node
+
+had_leaf : (nodes : List Node) (one : Assignment) (choice : Ground) → Solves nodes one → (i : ℕ) (node : Node) → node_at nodes i ≡ node →
+    ((t : Ground) (s : Assignment) → t ≡ node_type (one i) s node → IsAsChosen (one i) choice t node) → ChosenLeaf nodes (one i) choice i node
+had_leaf nodes one choice solves i node e chosen = record {
+  type = one i;
+  order = solves.in_order i;
+  fits = leaf-fits (IsRest nodes i) one (one i) node (subst (FitsNode (IsRest nodes i) one (one i)) e (solves.fits i));
+  rest = λ r. rest-type (IsRest nodes i) one (one i) node (subst (FitsNode (IsRest nodes i) one (one i)) e (solves.fits i)) (solved-record nodes one i solves r);
+  chosen = chosen;
+}
+
+chosen_leaf : (nodes : List Node) (one : Assignment) (choice : Ground) → Solves nodes one → InOrder choice → (i : ℕ) (node : Node) → node_at nodes i ≡ node →
+    AllowsChoice nodes i choice node → ChosenLeaf nodes (one i) choice i node
+chosen_leaf nodes one choice solves order i (End (shape.Variable flag)) e may =
+    record { type = choice; order = order; fits = may.0; rest = λ r. may.1 r; chosen = λ t s is. is }
+chosen_leaf nodes one choice solves order i (End (shape.Opaque number flag)) e may = had_leaf nodes one choice solves i (End (shape.Opaque number flag)) e (λ t s is. is)
+chosen_leaf nodes one choice solves order i (End (shape.Named name arguments)) e may = had_leaf nodes one choice solves i (End (shape.Named name arguments)) e (λ t s is. tt)
+chosen_leaf nodes one choice solves order i (End (shape.Arrow from to)) e may = had_leaf nodes one choice solves i (End (shape.Arrow from to)) e (λ t s is. tt)
+chosen_leaf nodes one choice solves order i (End (shape.Tuple ps)) e may = had_leaf nodes one choice solves i (End (shape.Tuple ps)) e (λ t s is. tt)
+chosen_leaf nodes one choice solves order i (End (shape.Row fields rest)) e may = had_leaf nodes one choice solves i (End (shape.Row fields rest)) e (λ t s is. tt)
+chosen_leaf nodes one choice solves order i (Link to) e may = had_leaf nodes one choice solves i (Link to) e (λ t s is. tt)
+
+pub variables-chosen : (nodes : List Node) (bound : ℕ) (one choice : Assignment) → IsSound nodes bound → Solves nodes one → ((i : ℕ) → InOrder (choice i)) →
+    ((i : ℕ) → AllowsChoice nodes i (choice i) (node_at nodes i)) →
+    (s : Assignment) × Solves nodes s × ((i : ℕ) → IsAsChosen (one i) (choice i) (s i) (node_at nodes i))
+variables-chosen nodes bound one choice sound solves order may =
+    let at = λ (i : ℕ). chosen_leaf nodes one (choice i) solves (order i) i (node_at nodes i) refl (may i) in
+    let chosen = λ (i : ℕ). (at i).type in (
+      composed nodes chosen bound,
+      composed-solves nodes chosen bound sound.deep (λ i. (at i).order) (λ i. (at i).fits) (λ i r. (at i).rest r),
+      λ i. (at i).chosen (composed nodes chosen bound i) (composed nodes chosen bound) (composed-is nodes chosen bound i (sound.deep i)),
     )

@@ -63,6 +63,17 @@ MayBeRest (End (shape.Variable Plain)) = Unit {0}
 MayBeRest (End (shape.Opaque number Plain)) = Unit {0}
 MayBeRest _ = ⊥
 
+-- the type may be chosen for the term where it is an unlinked variable
+abbrev pub AllowsChoice : List Node → ℕ → Ground → Node → Type 0
+AllowsChoice nodes i type (End (shape.Variable flag)) = HasFlag flag type × (IsRest nodes i → (row : Row) × (type ≡ Record row))
+AllowsChoice nodes i type _ = Unit {0}
+
+-- an unlinked variable has the type that is chosen, and an opaque type the one that it had
+abbrev pub IsAsChosen : (had choice type : Ground) → Node → Type 0
+IsAsChosen had choice type (End (shape.Variable flag)) = type ≡ choice
+IsAsChosen had choice type (End (shape.Opaque number flag)) = type ≡ had
+IsAsChosen had choice type _ = Unit {0}
+
 -- one term has another type
 abbrev pub with_type : Assignment → ℕ → Ground → Assignment
 with_type s at type i = if i == at then type else s i

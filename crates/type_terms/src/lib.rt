@@ -10,7 +10,9 @@ mod shape;
 mod store;
 
 pub use elm_typing::Flag;
-pub use laws::{unflagged_variables_are_free, well_formed_rows_have_a_solution};
+pub use laws::{
+    unflagged_variables_are_free, variables_may_be_chosen, well_formed_rows_have_a_solution,
+};
 pub use no_solution::NoSolution;
 pub use node::Node;
 pub use shape::Shape;
