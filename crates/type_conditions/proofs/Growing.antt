@@ -176,6 +176,9 @@ opened states after proper tail sound grown below types keeps is_tail et es =
         behind = (record { nodes = (nodes ++ leaf ∷ []) ++ row ∷ []; notes = notes_of states } ∷ record { nodes = nodes ++ leaf ∷ []; notes = notes_of states } ∷ [], refl);
         after = ([], sym (append_nothing proper));
       };
+      tails = (subst (λ (l : List State). Keeps (nodes_of states) (nodes_of l)) es keeps).tails;
+      variable = n;
+      is_open = refl;
       is_tail = subst (λ (t : Tail). IsTail (nodes_of (with_rest (shape.Variable Plain) states)) t) et (subst (λ (l : List State). IsTail (nodes_of l) tail) es is_tail);
       complete = λ chosen s line h order.
           let one = with_type s n (Record line) in

@@ -1,3 +1,4 @@
 pub mod Agreeing
 pub mod Growing
 pub mod Deciding
+pub mod Composing

@@ -7,6 +7,7 @@ use Rattle.elm_typing.specs.Sorts.{Sort, IsAtMost, IsWellSorted, sort_of}
 use Rattle.type_terms.specs.Solutions.{Assignment, fields_of}
 use Rattle.type_terms.specs.Terms.{State}
 use Rattle.type_unify.specs.declared.rows.Tail.{Tail}
+use Rattle.type_unify.specs.declared.rows.Tail.TheVariants.{Open}
 use Rattle.type_unify.specs.Rests.{IsType}
 use Rattle.type_unify.specs.Steps.{IsTail, under}
 use Rattle.type_unify.specs.Taken.{Agree}
@@ -46,6 +47,9 @@ KeepsTails old new = (tail : Tail) → IsTail (terms_in old) tail → IsTail (te
 -- the tail may end any row
 pub record Opens (old new : Asked) (tail : Tail) : Type 0 where
   pub grows : Grows old new
+  pub tails : KeepsTails old new
+  pub variable : ℕ
+  pub is_open : tail ≡ Open variable
   pub is_tail : IsTail (terms_in new) tail
   pub complete : (chosen : ℕ → Sort) (s : Assignment) (row : Row) → Satisfies old chosen s → RowInOrder row
       → (r : Assignment) × Agree (length (terms_in old)) s r × Satisfies new chosen r × (under r tail ≡ row)

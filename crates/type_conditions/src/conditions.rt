@@ -81,7 +81,8 @@ impl Conditions {
 
     /// A new term for any type that has the flag. Its type is to be well sorted.
     pub fn variable(&mut self, flag: Flag) -> Result<TermId, NoMemory>
-        ensures { IfOk result (Adds self.old self.new (λ chosen s type. IsWell chosen type × HasFlag flag type)) }
+        ensures adds { IfOk result (Adds self.old self.new (λ chosen s type. IsWell chosen type × HasFlag flag type)) }
+        ensures tails { OnOk result (KeepsTails self.old self.new) }
     {
         self.make(Shape::Variable { flag })
     }
