@@ -1,0 +1,4 @@
+pub mod Deciding
+pub mod Determined
+pub mod Finding
+pub mod Surplus

@@ -1,0 +1,5 @@
+pub mod Sense
+pub mod Ports
+pub mod Flaws
+pub mod Faults
+pub mod Deciding
