@@ -33,7 +33,7 @@ module _ (one two : Marks) where
   same_right [] ys h = h
   same_right (x ∷ xs) ys h = same_right xs ys h.1
 
-  same_signal : (w : Written) → Same (variables w) → is_signal one w ≡ is_signal two w
+  pub same_signal : (w : Written) → Same (variables w) → is_signal one w ≡ is_signal two w
   same_signal (Variable name) h = h.0
   same_signal (Named name arguments) h = refl
   same_signal (Arrow a r) h = same_signal r (same_right (variables a) (variables r) h)

@@ -2,3 +2,4 @@ pub mod Deciding
 pub mod Determined
 pub mod Finding
 pub mod Surplus
+pub mod Constructors

@@ -3,3 +3,4 @@ pub mod Ports
 pub mod Flaws
 pub mod Faults
 pub mod Deciding
+pub mod Constructors

@@ -9,6 +9,6 @@ mod sense;
 mod unions;
 mod whole;
 
-pub use laws::decl_faults_are_determined;
+pub use laws::{constructors_are_judged_by_each_argument, decl_faults_are_determined};
 pub use ports::carried_by;
 pub use whole::decl_fault;
