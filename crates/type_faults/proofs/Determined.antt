@@ -21,7 +21,7 @@ use Rattle.alias_cycles.specs.declared.texts.AliasText.{AliasText}
 use Rattle.alias_cycles.specs.Cycles.{refers}
 use Rattle.type_faults.specs.Flaws.{Leads, faults_in}
 use Rattle.type_faults.specs.Faults.{SaysWhatLeads, aliases_of, IsClear, IsFirstIn, IsTextFault, HasNoTextFault}
-use Rattle.type_faults.specs.Finding.{or_else, first_of_one, first_of}
+use Rattle.type_faults.specs.Finding.{or_else, first_by, first_of}
 use Rattle.type_faults.proofs.Finding.{Clear, First}
 
 -- ---- one first of several
@@ -72,43 +72,42 @@ first_in_is «module» (next ∷ more) flaw first =
 
 -- ---- of several modules
 
-module _ (types : List KnownType) (aliases : List AliasText) (leads : Leads) where
-  none_of : (modules : List Module) → Each (Clear types aliases leads) modules → first_of types aliases leads modules ≡ None
+-- where these are the faults of each module
+module _ (flaws : Module → List Flaw) where
+  pub none_of : (modules : List Module) → Each (Clear flaws) modules → first_by flaws modules ≡ None
   none_of [] all = refl
   none_of (next ∷ more) all =
-      ap (λ (flaws : List Flaw). or_else (first_in next.name flaws) (first_of types aliases leads more)) (all next (contains_here next more))
+      ap (λ (own : List Flaw). or_else (first_in next.name own) (first_by flaws more)) (all next (contains_here next more))
       ∙ none_of more (λ «module» in'. all «module» (Contains-append_right (next ∷ []) more «module» in'))
 
-  some_of : (before : List Module) (next : Module) (after : List Module) (flaw : Flaw) → Each (Clear types aliases leads) before →
-      First types aliases leads next flaw → first_of types aliases leads (before ++ next ∷ after) ≡ Some (fault_of next.name flaw)
+  some_of : (before : List Module) (next : Module) (after : List Module) (flaw : Flaw) → Each (Clear flaws) before → First flaws next flaw →
+      first_by flaws (before ++ next ∷ after) ≡ Some (fault_of next.name flaw)
   some_of [] next after flaw all first =
-      ap (λ (own : Option ProjectFault). or_else own (first_of types aliases leads after)) (first_in_is next.name (faults_in types aliases leads next) flaw first)
+      ap (λ (own : Option ProjectFault). or_else own (first_by flaws after)) (first_in_is next.name (flaws next) flaw first)
   some_of (earlier ∷ before) next after flaw all first =
-      ap (λ (flaws : List Flaw). or_else (first_in earlier.name flaws) (first_of types aliases leads (before ++ next ∷ after)))
-      (all earlier (contains_here earlier before))
+      ap (λ (own : List Flaw). or_else (first_in earlier.name own) (first_by flaws (before ++ next ∷ after))) (all earlier (contains_here earlier before))
       ∙ some_of before next after flaw (λ «module» in'. all «module» (Contains-append_right (earlier ∷ []) before «module» in')) first
 
-  found : (modules : List Module) (fault : ProjectFault) → IsFirstOfAll (Clear types aliases leads) (First types aliases leads) modules fault →
-      first_of types aliases leads modules ≡ Some fault
+  pub found : (modules : List Module) (fault : ProjectFault) → IsFirstOfAll (Clear flaws) (First flaws) modules fault → first_by flaws modules ≡ Some fault
   found modules fault so =
-      ap (first_of types aliases leads) so.ordered ∙ some_of so.before so.«module» so.after so.flaw so.none so.one ∙ ap (λ (f : ProjectFault). Some f) (sym so.is)
+      ap (first_by flaws) so.ordered ∙ some_of so.before so.«module» so.after so.flaw so.none so.one ∙ ap (λ (f : ProjectFault). Some f) (sym so.is)
 
 -- ---- of a project
 
-same_tests : (x y : Bool) (P : Type 0) → IsTrue x ↔ P → IsTrue y ↔ P → x ≡ y
+pub same_tests : (x y : Bool) (P : Type 0) → IsTrue x ↔ P → IsTrue y ↔ P → x ≡ y
 same_tests x y P one two =
     ⊎_elim (λ (e : x ≡ true). e ∙ sym (two.1 (one.0 e)))
     (λ (e : x ≡ false).
     ⊎_elim (λ (f : y ≡ true). absurd (false≢true (sym e ∙ one.1 (two.0 f)))) (λ (f : y ≡ false). e ∙ sym f) (cases_Bool y)) (cases_Bool x)
 
-same_leads : (aliases : List AliasText) (one two : Leads) → SaysWhatLeads aliases one → SaysWhatLeads aliases two → one ≡ two
+pub same_leads : (aliases : List AliasText) (one two : Leads) → SaysWhatLeads aliases one → SaysWhatLeads aliases two → one ≡ two
 same_leads aliases one two says also = fun_ext (λ a. fun_ext (λ b. same_tests (one a b) (two a b) (Reaches (refers aliases) a b) (says a b) (also a b)))
 
 at_leads : (modules : List Module) (leads : Leads) → SaysWhatLeads (aliases_of modules) leads → (fault : ProjectFault) → IsTextFault modules fault →
     first_of (known_in modules) (aliases_of modules) leads modules ≡ Some fault
 at_leads modules leads says fault so =
     ap (λ (l : Leads). first_of (known_in modules) (aliases_of modules) l modules) (same_leads (aliases_of modules) leads so.leads says so.says)
-    ∙ found (known_in modules) (aliases_of modules) so.leads modules fault so.first
+    ∙ found (faults_in (known_in modules) (aliases_of modules) so.leads) modules fault so.first
 
 pub one_fault : (modules : List Module) (one two : ProjectFault) → IsTextFault modules one → IsTextFault modules two → one ≡ two
 one_fault modules one two first second =
@@ -118,6 +117,6 @@ one_fault modules one two first second =
 
 pub not_both : (modules : List Module) (fault : ProjectFault) → HasNoTextFault modules → IsTextFault modules fault → ⊥
 not_both modules fault none so =
-    let e : first_of (known_in modules) (aliases_of modules) none.leads modules ≡ None = none_of (known_in modules) (aliases_of modules) none.leads modules none.clear in
+    let e : first_of (known_in modules) (aliases_of modules) none.leads modules ≡ None = none_of (faults_in (known_in modules) (aliases_of modules) none.leads) modules none.clear in
     let f : first_of (known_in modules) (aliases_of modules) none.leads modules ≡ Some fault = at_leads modules none.leads none.says fault so in
     let both : None ≡ Some fault = sym e ∙ f in cc

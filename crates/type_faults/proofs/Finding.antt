@@ -18,7 +18,7 @@ use Rattle.alias_cycles.specs.Naming.{aliases_in}
 use Rattle.alias_cycles.specs.Cycles.{refers}
 use Rattle.type_faults.specs.Flaws.{Leads, faults_in}
 use Rattle.type_faults.specs.Faults.{SaysWhatLeads, aliases_of, IsClear, IsFirstIn}
-use Rattle.type_faults.specs.Finding.{or_else, first_of_one, first_of, Finds}
+use Rattle.type_faults.specs.Finding.{or_else, first_by, first_of, Finds}
 
 pub each_none : (holds : Module → Type 0) → Each holds []
 each_none holds = λ «module» in'. absurd (contains_none «module» in')
@@ -27,18 +27,19 @@ pub each_behind : (holds : Module → Type 0) (first : Module) (more : List Modu
 each_behind holds first more one all «module» in' =
     ⊎_elim (λ (e : first ≡ «module»). subst holds e one) (λ (later : Contains more «module»). all «module» later) (contains_cases first «module» more in')
 
-module _ (types : List KnownType) (aliases : List AliasText) (leads : Leads) where
+-- where these are the faults of each module
+module _ (flaws : Module → List Flaw) where
   abbrev pub Clear : Module → Type 0
-  Clear «module» = faults_in types aliases leads «module» ≡ []
+  Clear «module» = flaws «module» ≡ []
 
   abbrev pub First : Module → Flaw → Type 0
-  First «module» flaw = IsFirst (faults_in types aliases leads «module») flaw
+  First «module» flaw = IsFirst (flaws «module») flaw
 
   abbrev pub Says : List Module → Option ProjectFault → Type 0
   Says modules None = Each Clear modules
   Says modules (Some fault) = IsFirstOfAll Clear First modules fault
 
-  one_more : (next : Module) (more : List Module) (own later : Option ProjectFault) → SaysIn next.name (faults_in types aliases leads next) own →
+  one_more : (next : Module) (more : List Module) (own later : Option ProjectFault) → SaysIn next.name (flaws next) own →
       Says more later → Says (next ∷ more) (or_else own later)
   one_more next more (Some fault) later (flaw, first, is) all = record {
     before = [];
@@ -62,17 +63,16 @@ module _ (types : List KnownType) (aliases : List AliasText) (leads : Leads) whe
     is = found.is;
   }
 
-  pub says_all : (modules : List Module) → Says modules (first_of types aliases leads modules)
+  pub says_all : (modules : List Module) → Says modules (first_by flaws modules)
   says_all [] = each_none Clear
   says_all (next ∷ more) =
-      one_more next more (first_of_one types aliases leads next) (first_of types aliases leads more)
-      (first_in_says next.name (faults_in types aliases leads next)) (says_all more)
+      one_more next more (first_in next.name (flaws next)) (first_by flaws more) (first_in_says next.name (flaws next)) (says_all more)
 
-says_leads : (aliases : List AliasText) (reached : Table) → SaysWhatReaches (refers aliases) reached → SaysWhatLeads aliases (bit_of reached)
+pub says_leads : (aliases : List AliasText) (reached : Table) → SaysWhatReaches (refers aliases) reached → SaysWhatLeads aliases (bit_of reached)
 says_leads aliases reached says a b = (λ h. says.sound a b h, λ h. says.complete a b h)
 
 found_by : (modules : List Module) (leads : Leads) → SaysWhatLeads (aliases_of modules) leads → (found : Option ProjectFault) →
-    Says (known_in modules) (aliases_of modules) leads modules found → Finds modules found
+    Says (faults_in (known_in modules) (aliases_of modules) leads) modules found → Finds modules found
 found_by modules leads says None all = record {
   leads = leads;
   says = says;
@@ -88,8 +88,8 @@ pub finds : (modules : List Module) (reached : Table) (found : Option ProjectFau
     found ≡ first_of (known_in modules) (aliases_of modules) (bit_of reached) modules → Finds modules found
 finds modules reached found says e =
     found_by modules (bit_of reached) (says_leads (aliases_of modules) reached says) found
-    (subst (λ (o : Option ProjectFault). Says (known_in modules) (aliases_of modules) (bit_of reached) modules o) (sym e)
-    (says_all (known_in modules) (aliases_of modules) (bit_of reached) modules))
+    (subst (λ (o : Option ProjectFault). Says (faults_in (known_in modules) (aliases_of modules) (bit_of reached)) modules o) (sym e)
+    (says_all (faults_in (known_in modules) (aliases_of modules) (bit_of reached)) modules))
 
 -- the same by the types and aliases that were found
 pub finds_at : (modules : List Module) (types : List KnownType) (aliases : List AliasText) (reached : Table) (found : Option ProjectFault) →

@@ -6,5 +6,7 @@ mod flaws;
 mod laws;
 mod whole;
 
+pub use first::first_fault;
+pub use flaws::faults_in;
 pub use laws::text_faults_are_determined;
 pub use whole::text_fault;

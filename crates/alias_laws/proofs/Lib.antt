@@ -1,0 +1,5 @@
+pub mod Within
+pub mod Agreeing
+pub mod Lists
+pub mod Known
+pub mod Complete

@@ -1,0 +1,5 @@
+pub mod Deciding
+pub mod Determined
+pub mod Finding
+pub mod Surplus
+pub mod Constructors

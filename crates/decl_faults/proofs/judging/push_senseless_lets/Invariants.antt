@@ -1,0 +1,10 @@
+use Rattle.std.proofs.Common.{◌≡◌, ◌++◌, take}
+use Rattle.type_names.specs.Answers.{places_of}
+use Rattle.decl_faults.specs.Sense.{by_table}
+use Rattle.decl_faults.specs.Sense as spec
+use Rattle.decl_faults.specs.Deciding.{sensible}
+use Rattle.decl_faults.proofs.judging.push_senseless_lets.Given as goal
+
+abbrev pub invariant-loop-annotation : goal.invariant-loop-annotation
+invariant-loop-annotation l =
+    l.out ≡ l.fn.out ++ spec.senseless_lets sensible (by_table l.aliases) (places_of l.scope) (take l.annotation-index l.annotations)

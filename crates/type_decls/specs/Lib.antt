@@ -1,0 +1,4 @@
+pub mod Unions
+pub mod Aliases
+pub mod Ports
+pub mod Declaring
