@@ -1,0 +1,4 @@
+pub mod Fit
+pub mod Placed
+pub mod SameType
+pub mod Worked

@@ -1,0 +1,5 @@
+pub mod Complete
+pub mod GivenLaws
+pub mod PortLaws
+pub mod Several
+pub mod Turns

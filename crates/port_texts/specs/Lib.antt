@@ -1,0 +1,4 @@
+pub mod Given
+pub mod PortTexts
+pub mod Reader
+pub mod Worked
