@@ -1,0 +1,9 @@
+use Rattle.std.proofs.Common.{◌≡◌, length}
+use Rattle.type_instances.specs.Tables as spec
+use Rattle.type_instances.proofs.table.tail_of.Given as goal
+
+abbrev pub invariant-loop-left : goal.invariant-loop-left
+invariant-loop-left l = spec.tail_of l.left l.name ≡ spec.tail_of l.table l.name
+
+abbrev pub decreases-loop-left : goal.decreases-loop-left
+decreases-loop-left l = length l.left
