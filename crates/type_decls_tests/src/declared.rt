@@ -6,7 +6,7 @@ use std::process::Abort;
 use std::test::Fail;
 
 /// Each project, and the unions, aliases and ports that it declares, those of the library aside; or its first fault.
-const DECLARED: [(&str, &str); 11] = [
+const DECLARED: [(&str, &str); 15] = [
     ("type T = K", "Main.T | K; "),
     (
         "type T a b = K a (Maybe b) | L { x : T b a } (a -> ())",
@@ -43,6 +43,22 @@ const DECLARED: [(&str, &str); 11] = [
     (
         "type T = K Foo",
         "refused ProjectRefused Main 1 BadType Foo\n",
+    ),
+    (
+        "import Graphics.Element exposing (..)\nimport Mouse\nport p : Signal { x : Int, y : Int }\nmain = Signal.map show (Signal.foldp (\\_ n -> n + 1) 0 (Signal.dropRepeats p))",
+        "in 3 p : { x : Int, y : Int }; ",
+    ),
+    (
+        "import Graphics.Element exposing (..)\nimport Mouse\nport p : Signal (Maybe (List Int))\nf m = case m of\n  Nothing -> 0\n  Just [] -> 1\n  Just (x :: []) -> x\nmain = Signal.map (\\m -> show (f m)) p",
+        "in 3 p : Maybe (List Int); ",
+    ),
+    (
+        "import Graphics.Element exposing (..)\nimport Mouse\nport p : Signal Int\nmain = Signal.map (\\n -> show (n - 1)) p",
+        "in 3 p : Int; ",
+    ),
+    (
+        "import Graphics.Element exposing (..)\nimport Mouse\nport doubled : Signal Int\nport doubled = Signal.map (\\n -> n * 2) Mouse.x\nmain = flow down [text \"ab\", flow right [text \"c\", spacer 2 1, show 5]]",
+        "out 3 doubled : Int; ",
     ),
     ("port p : Int", "refused ProjectRefused Main 1 BadPort p\n"),
 ];
