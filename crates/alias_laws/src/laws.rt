@@ -21,13 +21,16 @@ ghost use Rattle.alias_laws.specs.Once.{AliasesOnce, IsAliasOf};
 pub fn tables_of_aliases_agree()
     ensures aliases { (types : List KnownType) (modules : List Module) (one two : List PlainAlias)
         → AliasesOnce modules → AreWrittenOut types modules one → AreWrittenOut types modules two
-        → («module» name : List ℕ) → alias_called one «module» name ≡ alias_called two «module» name }
+        → («module» name : List ℕ)
+        → alias_called one «module» name ≡ alias_called two «module» name }
     ensures types { (types : List KnownType) (modules : List Module) (one two : List PlainAlias)
         → AliasesOnce modules → AreWrittenOut types modules one → AreWrittenOut types modules two
-        → (places : Places) (written : TypeTree) → plain one places written ≡ plain two places written }
+        → (places : Places) (written : TypeTree)
+        → plain one places written ≡ plain two places written }
     ensures known { (types : List KnownType) (modules : List Module) (one two : List PlainAlias)
         → AliasesOnce modules → AreWrittenOut types modules one → AreWrittenOut types modules two
-        → (places : Places) (written : TypeTree) → knows one places written ≡ knows two places written }
+        → (places : Places) (written : TypeTree)
+        → knows one places written ≡ knows two places written }
 {}
 
 /// In a project without faults in the texts of its types each alias is written out, and so is each that a written type names
@@ -35,7 +38,8 @@ pub fn tables_of_aliases_agree()
 pub fn aliases_without_fault_are_written_out()
     ensures aliases { (modules : List Module) (aliases : List PlainAlias) → HasNoTextFault modules
         → AreWrittenOut (known_in modules) modules aliases → (home name : List ℕ)
-        («module» : Module) (declaration : Declaration) → IsAliasOf modules home name «module» declaration
+        («module» : Module) (declaration : Declaration)
+        → IsAliasOf modules home name «module» declaration
         → is_listed aliases home name ≡ true }
     ensures types { (modules : List Module) (aliases : List PlainAlias) → HasNoTextFault modules
         → AreWrittenOut (known_in modules) modules aliases → («module» : Module)

@@ -166,7 +166,8 @@ pub fn push_senseless_in(
     out: &mut Items<Flaw>,
 ) -> Result<(), NoMemory>
     ensures { OnOk result (out.new ≡ out.old
-        ++ spec.senseless_in sensible (by_table aliases.now) (places_of scope.now) declarations.now) }
+        ++ spec.senseless_in sensible (by_table aliases.now) (places_of scope.now)
+        declarations.now) }
 {
     for declaration in declarations {
         push_senseless(alloc, declaration, aliases, scope, room, out)?;

@@ -133,7 +133,8 @@ fn push_port(
     declaration: &Declaration,
     out: &mut Items<Flaw>,
 ) -> Result<(), NoMemory>
-    ensures { OnOk result (out.new ≡ out.old ++ spec.surplus_layer (out-Declaration declaration.now)) }
+    ensures { OnOk result
+        (out.new ≡ out.old ++ spec.surplus_layer (out-Declaration declaration.now)) }
 {
     match declaration {
         Declaration::PortAnnotation { at, name, .. } => {

@@ -32,7 +32,8 @@ fn dotted(alloc: Global, module: &Name, name: &Name) -> Result<Name, NoMemory>
 }
 
 fn variables(alloc: Global, parameters: &[Spot]) -> Result<Items<TypeTree>, NoMemory>
-    ensures { IfOk result (λ made. made ≡ map (λ spot. t.Variable spot.at spot.name) parameters.now) }
+    ensures { IfOk result (λ made. made
+        ≡ map (λ spot. t.Variable spot.at spot.name) parameters.now) }
 {
     let mut made = Items::new(alloc);
     for spot in parameters {

@@ -35,9 +35,11 @@ impl Model for Conditions {
 
     ghost Value = { Asked };
 
-    ghost view = { λ conditions. record { states = conditions.types; proper = conditions.proper.items } };
+    ghost view = { λ conditions.
+        record { states = conditions.types; proper = conditions.proper.items } };
 
-    ghost invariant = { λ conditions. Each (IsType (nodes_of conditions.types)) conditions.proper.items };
+    ghost invariant = { λ conditions.
+        Each (IsType (nodes_of conditions.types)) conditions.proper.items };
 }
 
 impl Conditions {
@@ -81,7 +83,8 @@ impl Conditions {
 
     /// A new term for any type that has the flag. Its type is to be well sorted.
     pub fn variable(&mut self, flag: Flag) -> Result<TermId, NoMemory>
-        ensures adds { IfOk result (Adds self.old self.new (λ chosen s type. IsWell chosen type × HasFlag flag type)) }
+        ensures adds { IfOk result (Adds self.old self.new
+            (λ chosen s type. IsWell chosen type × HasFlag flag type)) }
         ensures tails { OnOk result (KeepsTails self.old self.new) }
     {
         self.make(Shape::Variable { flag })

@@ -35,8 +35,10 @@ pub fn are_satisfiable(
 ) -> Result<bool, NoMemory>
     requires { Each (IsType (nodes_of types.old)) proper.now }
     ensures grown { (changes : List State) × (types.new ≡ changes ++ types.old) }
-    ensures yes { result ≡ Ok true → IsSatisfiable (record { states = types.old; proper = proper.now }) }
-    ensures no { result ≡ Ok false → IsSatisfiable (record { states = types.old; proper = proper.now }) → ⊥ }
+    ensures yes { result ≡ Ok true
+        → IsSatisfiable (record { states = types.old; proper = proper.now }) }
+    ensures no { result ≡ Ok false
+        → IsSatisfiable (record { states = types.old; proper = proper.now }) → ⊥ }
 {
     // What the store keeps is wanted before the term and behind it.
     let _notes = types.store().notes();

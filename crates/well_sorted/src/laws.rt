@@ -10,6 +10,6 @@ ghost use Rattle.well_sorted.specs.Asking.{SortsVariables};
 /// Each solution can be changed into one in which the types of variables are well sorted and each term has the sort that
 /// it had, so that the same notes are met.
 pub fn variables_can_be_sorted()
-    ensures { (nodes : List Node) (bound : ℕ) (chosen : ℕ → Sort) (s : Assignment) → IsSound nodes bound
-        → Solves nodes s → (r : Assignment) × SortsVariables nodes chosen s r }
+    ensures { (nodes : List Node) (bound : ℕ) (chosen : ℕ → Sort) (s : Assignment)
+        → IsSound nodes bound → Solves nodes s → (r : Assignment) × SortsVariables nodes chosen s r }
 {}
