@@ -1,9 +1,9 @@
 -- What stays placed in an arena that grows, and what nodes of placed parts unfold to.
-use Rattle.std.proofs.Common.{◌≡◌, ◌<◌, ◌≤◌, ◌+◌, ◌-◌, ℕ, suc, List, [], ◌∷◌, ◌++◌, map, take, drop, length, length-append, get_or, Result, Ok, Err, IfOk, OnOk, OnErr, refl, sym, ap, ap₂, ◌∙◌, arith, subst}
+use Rattle.std.proofs.Common.{◌≡◌, ◌<◌, ◌≤◌, ◌+◌, ◌-◌, ℕ, List, [], ◌∷◌, ◌++◌, map, take, drop, length, length-append, get_or, Result, Ok, Err, IfOk, OnOk, OnErr, refl, sym, ap, ap₂, ◌∙◌, arith, subst}
 use Rattle.std.proofs.lemmas.List.{append-nil, append_assoc, length_push, drop_more, take_more, map-append}
 use Rattle.std.proofs.Math.Seq.{take-append_seam}
 use Rattle.elm_meaning.specs.Records.{put_field}
-use Rattle.elm_meaning.specs.Values.{Value, Values, Fields, Cons, Tuple, Record, AndValue}
+use Rattle.elm_meaning.specs.Values.{Value, Cons, Tuple, Record, AndValue}
 use Rattle.value_arena.specs.declared.node.Node.{Node}
 use Rattle.value_arena.specs.Soundness.{RefsBelow, FieldsBelow}
 use Rattle.value_arena.specs.Unfolding as arena

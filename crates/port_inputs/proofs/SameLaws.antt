@@ -1,5 +1,5 @@
 -- Whether two types are the same is decided by the function.
-use Rattle.std.proofs.Common.{◌≡◌, ◌↔◌, ◌&&◌, ℕ, Bool, true, false, true≢false, IsTrue, List, [], ◌∷◌, map, refl, sym, ◌∙◌, ap, ap₂, subst}
+use Rattle.std.proofs.Common.{◌≡◌, ◌&&◌, ℕ, Bool, true, false, true≢false, List, [], ◌∷◌, map, refl, sym, ◌∙◌, ap, ap₂, subst}
 use Rattle.std.specs.Str.{bytes_eq}
 use Rattle.std.proofs.lemmas.Slice.Eq.{bytes_eq-Decides}
 use Rattle.elm_base.specs.declared.event.PortType.{PortType, out-PortType, roll-PortType, map-PortType, out-roll-PortType, roll-out-PortType}

@@ -5,7 +5,7 @@ use Rattle.elm_base.specs.declared.event.PortValue.TheOpen as given
 use Rattle.elm_base.specs.declared.event.PortValue.TheFolds.{fold-PortValue}
 use Rattle.elm_meaning.specs.Answers.{named, truth}
 use Rattle.elm_meaning.specs.Records.{put_field}
-use Rattle.elm_meaning.specs.Values.{Value, Values, Fields, Int, Text, Nil, Cons, Tuple, Made, Record, NoValues, AndValue, NoFields, AndField}
+use Rattle.elm_meaning.specs.Values.{Value, Values, Fields, Int, Text, Nil, Cons, Tuple, Made, Record, NoValues, AndValue, NoFields}
 use Rattle.elm_meaning.specs.Values as unit
 use Rattle.value_arena.specs.declared.node.Node.{Node}
 use Rattle.value_arena.specs.Unfolding.{Lambdas, unfolded}

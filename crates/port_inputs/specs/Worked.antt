@@ -1,5 +1,5 @@
 -- Worked cases: values form by form, what is inside being given; types form by form; inputs by their names.
-use Rattle.std.specs.Prelude.{◌≡◌, ℕ, pos, negsuc, Bool, true, false, List, [], ◌∷◌, codes, Some, None}
+use Rattle.std.specs.Prelude.{◌≡◌, ℕ, pos, negsuc, true, false, List, [], ◌∷◌, codes, Some, None}
 use Rattle.elm_base.specs.declared.event.PortType.{PortType}
 use Rattle.elm_base.specs.declared.event.PortType.TheOpen as type
 use Rattle.elm_base.specs.declared.event.PortType.TheVariants as port

@@ -1,25 +1,23 @@
 -- What is printed of a port's type is read again, and so is nothing else.
-use Rattle.std.proofs.Common.{◌≡◌, ◌≢◌, ◌≤◌, ◌<◌, ◌*◌, ◌-◌, ◌==◌, ◌&&◌, nat_le, ℕ, zero, suc, Bool, true, false, true≢false, if◌then◌else◌, not, IsTrue, IfOk, arith, List, [], ◌∷◌, ◌++◌, map, length, codes, Option, Some, None, option_and_then, Result, Ok, Err, refl, sym, ◌∙◌, ap, ap₂, subst}
-use Rattle.std.specs.List.{flat_map, list_all}
+use Rattle.std.proofs.Common.{◌≡◌, ◌≤◌, ◌*◌, ◌-◌, ◌==◌, ◌&&◌, nat_le, ℕ, zero, suc, Bool, true, false, true≢false, if◌then◌else◌, IsTrue, IfOk, arith, List, [], ◌∷◌, ◌++◌, map, length, codes, Some, None, option_and_then, Result, Ok, Err, refl, sym, ◌∙◌, ap, subst}
+use Rattle.std.specs.List.{list_all}
 use Rattle.std.specs.Str.{bytes_eq}
 use Rattle.std.proofs.lemmas.List.{append-nil, append_assoc}
 use Rattle.std.proofs.lemmas.Slice.Eq.{bytes_eq-Decides}
 use Rattle.elm_base.specs.Letters.{is_name_byte}
 use Rattle.elm_base.specs.declared.memory.Halt.{Halt}
-use Rattle.elm_base.specs.declared.memory.Halt.TheVariants as halt
 use Rattle.elm_base.specs.declared.event.PortType.{PortType, roll-PortType, map-PortType}
 use Rattle.elm_base.specs.declared.event.PortType.TheVariants as port
 use Rattle.elm_base.specs.declared.event.PortType.TheOpen as type
 use Rattle.elm_base.specs.declared.event.PortType.TheFolds.{fold-roll-PortType, ind-PortType}
 use Rattle.frame_text.specs.TypeText.{Described, argument, other_parts, other_fields, type_step, described, described_field, type_text}
-use Rattle.frame_text.specs.TypeText as print
 use Rattle.port_texts.specs.declared.head.Head.TheVariants as head_
 use Rattle.port_texts.specs.declared.read.BadPortText.{BadPortText}
-use Rattle.port_texts.specs.Given.{Test, some_level, is_small, is_name, is_label, is_first, are_labels, are_few, all_pass, fields_pass, given_step, is_given, given_field, max_levels, max_text}
+use Rattle.port_texts.specs.Given.{Test, some_level, is_small, is_name, is_label, is_first, are_labels, are_few, all_pass, fields_pass, given_step, is_given, given_field, max_levels}
 use Rattle.port_texts.specs.PortTexts.{Spells, Refuses, OneType}
-use Rattle.port_texts.specs.Reader.{Text, Outcome, Reader, and_then, under, behind, marked, mark, word, head, begun, some_of, closed, parts, field, fields, enclosed, behind_head, headed, type_at, has_text, is_short, is_spelled, where_so, spelled, max_depth, read, ReadsWhole}
+use Rattle.port_texts.specs.Reader.{Text, Outcome, Reader, and_then, under, mark, head, begun, closed, parts, field, fields, enclosed, behind_head, headed, type_at, has_text, is_short, is_spelled, where_so, spelled, max_depth, read, ReadsWhole}
 use Rattle.port_texts.proofs.GivenLaws.{labels_alike}
-use Rattle.port_texts.proofs.Several.{same_bytes, begins, marks, IsWord, and_left, and_right, word_read, IsRead, AllRead, written, some_read, closed_by}
+use Rattle.port_texts.proofs.Several.{same_bytes, IsWord, and_left, and_right, word_read, IsRead, AllRead, written, some_read, closed_by}
 
 -- the first byte of a type's text is no closing bracket
 abbrev Opens : PortType → Type 0

@@ -1,6 +1,5 @@
 -- The test of types, form by form.
-use Rattle.std.proofs.Common.{◌≡◌, ◌==◌, ◌-◌, ℕ, suc, Bool, true, false, not, ◌&&◌, List, [], ◌∷◌, map, length, refl, sym, ◌∙◌, ap, ap₂}
-use Rattle.std.specs.List.{list_all}
+use Rattle.std.proofs.Common.{◌≡◌, ◌==◌, ◌-◌, ℕ, suc, Bool, false, not, ◌&&◌, List, [], ◌∷◌, map, length, refl, sym, ◌∙◌, ap, ap₂}
 use Rattle.elm_base.specs.declared.event.PortType.{PortType, out-PortType, map-PortType}
 use Rattle.elm_base.specs.declared.event.PortType.TheVariants as port
 use Rattle.elm_base.specs.declared.event.PortType.TheFolds.{fold_out-PortType}

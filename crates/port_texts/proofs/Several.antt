@@ -1,11 +1,11 @@
 -- Several items with bytes between them are read as they are written.
-use Rattle.std.proofs.Common.{◌≡◌, ◌≤◌, ◌<◌, ◌+◌, ◌==◌, ◌&&◌, ℕ, zero, suc, Bool, true, false, true≢false, if◌then◌else◌, arith, List, [], ◌∷◌, ◌++◌, map, length, take, drop, Option, Some, None, refl, sym, ◌∙◌, ap, ap₂, length-append}
+use Rattle.std.proofs.Common.{◌≡◌, ◌≤◌, ◌<◌, ◌==◌, ◌&&◌, ℕ, zero, suc, Bool, true, false, true≢false, if◌then◌else◌, arith, List, [], ◌∷◌, ◌++◌, map, length, take, drop, Some, None, refl, sym, ◌∙◌, ap, ap₂, length-append}
 use Rattle.std.specs.List.{flat_map, list_all}
 use Rattle.std.specs.Str.{bytes_eq}
-use Rattle.std.proofs.lemmas.List.{append-nil, append_assoc}
+use Rattle.std.proofs.lemmas.List.{append_assoc}
 use Rattle.std.proofs.lemmas.Slice.Eq.{bytes_eq-Decides}
 use Rattle.std.proofs.Math.Seq.{take-append_seam, drop-append_seam}
-use Rattle.port_texts.specs.Reader.{Text, Outcome, Reader, and_then, under, behind, marked, mark, word_len, word, one_more, more, some_of, closed}
+use Rattle.port_texts.specs.Reader.{Text, Reader, and_then, under, behind, marked, mark, word_len, word, one_more, more, some_of, closed}
 use Rattle.port_texts.proofs.Turns.{none_more}
 
 pub same_bytes : (text : Text) → bytes_eq text text ≡ true

@@ -1,5 +1,5 @@
 -- Which texts are texts of types of programs' ports.
-use Rattle.std.specs.Prelude.{◌≡◌, ◌≢◌, ◌≤◌, ◌&&◌, ℕ, suc, IsTrue, nat_le, List, length, Result, Ok, Err}
+use Rattle.std.specs.Prelude.{◌≡◌, ◌≢◌, ◌≤◌, ℕ, suc, IsTrue, List, length, Result, Ok, Err}
 use Rattle.elm_base.specs.declared.memory.Halt.{Halt}
 use Rattle.elm_base.specs.declared.memory.Halt.TheVariants as halt
 use Rattle.elm_base.specs.declared.event.PortType.{PortType}

@@ -1,5 +1,5 @@
 -- Worked cases of the types that ports of programs have: what is inside is given by its test.
-use Rattle.std.specs.Prelude.{◌≡◌, ℕ, ◌==◌, Bool, true, false, List, [], ◌∷◌, codes, replicate}
+use Rattle.std.specs.Prelude.{◌≡◌, ℕ, ◌==◌, true, false, List, [], ◌∷◌, codes, replicate}
 use Rattle.elm_base.specs.declared.event.PortType.TheOpen as type
 use Rattle.port_texts.specs.Given.{Test, is_label, given_step}
 

@@ -1,4 +1,4 @@
-use Rattle.std.proofs.Common.{◌≡◌, ◌-◌, ◌+◌, ◌∷◌, length, map, take, drop, sym, ap, ◌∙◌, subst}
+use Rattle.std.proofs.Common.{◌-◌, ◌+◌, length, map, take, drop, sym, ap, subst}
 use Rattle.value_arena.specs.Soundness.{RefsBelow, FieldsBelow}
 use Rattle.port_inputs.specs.Placed.{placed, placed_field}
 use Rattle.port_inputs.proofs.Growing.{grows_trans, placed_turn, field_turn, refs_below, fields_below, tuple_placed, record_placed, list_turn, one_further, map_more}

@@ -1,4 +1,4 @@
-use Rattle.std.proofs.Common.{◌≡◌, sym, ◌∙◌}
+use Rattle.std.proofs.Common.{sym, ◌∙◌}
 use Rattle.port_inputs.proofs.SameLaws.{decided}
 use Rattle.port_inputs.proofs.types.same_type.Goals as goal
 
