@@ -34,12 +34,15 @@ pub decided-yes : (states : List State) (proper : List ℕ) (notes all : List (�
     Solves (nodes_of (with_unit states)) s → Meets s chosen all → IsSatisfiable (record { states = states; proper = proper })
 decided-yes states proper notes all s chosen sound grown tells e h meets =
     let m = meets-apart s chosen (notes_of states) notes (subst (Meets s chosen) e meets) in
-    let r = variables-sorted (nodes_of (with_unit states)) (doubled (length (with_unit states))) chosen s grown h in
-    (chosen, r.0, record {
-      solves = ((solves-pushed (nodes_of states) (doubled (length states)) (shape.Tuple []) r.0 sound tt tt).0 r.1.solves).0;
-      meets = same-meets s r.0 chosen (notes_of states) r.1.same m.0;
-      sorted = tells.only chosen r.0 r.1.solves (unit-simple states chosen r.0 r.1.solves) r.1.sorted (same-meets s r.0 chosen notes r.1.same m.1);
-    })
+    let r = variables-sorted (nodes_of (with_unit states)) (doubled (length (with_unit states))) chosen s grown h in (
+      chosen,
+      r.0,
+      record {
+        solves = ((solves-pushed (nodes_of states) (doubled (length states)) (shape.Tuple []) r.0 sound tt tt).0 r.1.solves).0;
+        meets = same-meets s r.0 chosen (notes_of states) r.1.same m.0;
+        sorted = tells.only chosen r.0 r.1.solves (unit-simple states chosen r.0 r.1.solves) r.1.sorted (same-meets s r.0 chosen notes r.1.same m.1);
+      },
+    )
 
 pub decided-no : (states : List State) (proper : List ℕ) (notes all : List (ℕ × ℕ)) → IsStored states → AreNotesBelow (length (nodes_of states)) (notes_of states) → Each (IsType (nodes_of states)) proper →
     Tells (nodes_of (with_unit states)) (length (nodes_of states)) proper notes → all ≡ notes_of states ++ notes →

@@ -187,13 +187,17 @@ opened states after proper tail sound grown below types keeps is_tail et es =
           let b = with_type-agrees (length (nodes ++ leaf ∷ [])) one (Record line) in
           let agree : Agree n s two = λ i lt. a i lt ∙ b i (omega (arith, lt, length-append nodes (leaf ∷ []))) in
           let here : two n ≡ Record line = sym (b n (omega (arith, length-append nodes (leaf ∷ [])))) ∙ with_type-itself n s (Record line) in
-          let solved = solves-extended nodes (doubled (length states)) (shape.Variable Plain) s (Record line) sound tt tt h.solves tt order in
-          (two, agree, record {
-            solves = solves-extended (nodes ++ leaf ∷ []) (doubled (length (with_term (shape.Variable Plain) states))) (shape.Row [] (Some n)) one (Record line) middle inside no_new solved
-                (line, with_type-itself n s (Record line), refl) order;
-            meets = agree-meets n s two chosen (notes_of states) agree below h.meets;
-            sorted = agree-sorted nodes s two chosen proper agree types h.sorted;
-          }, row-at nodes two n line here);
+          let solved = solves-extended nodes (doubled (length states)) (shape.Variable Plain) s (Record line) sound tt tt h.solves tt order in (
+            two,
+            agree,
+            record {
+              solves = solves-extended (nodes ++ leaf ∷ []) (doubled (length (with_term (shape.Variable Plain) states))) (shape.Row [] (Some n)) one (Record line) middle inside no_new solved
+                  (line, with_type-itself n s (Record line), refl) order;
+              meets = agree-meets n s two chosen (notes_of states) agree below h.meets;
+              sorted = agree-sorted nodes s two chosen proper agree types h.sorted;
+            },
+            row-at nodes two n line here,
+          );
     }))
   where
     nodes : List Node
@@ -249,12 +253,15 @@ equated states after proper a b below types grown u = record {
   };
   has = λ chosen s h. u.equal s h.solves;
   complete = λ chosen s h e.
-      let r = u.complete s h.solves e in
-      (r.0, r.1, record {
-        solves = r.2;
-        meets = subst (Meets r.0 chosen) (sym grown.notes) (agree-meets (length (nodes_of states)) s r.0 chosen (notes_of states) r.1 below h.meets);
-        sorted = agree-sorted (nodes_of states) s r.0 chosen proper r.1 types h.sorted;
-      });
+      let r = u.complete s h.solves e in (
+        r.0,
+        r.1,
+        record {
+          solves = r.2;
+          meets = subst (Meets r.0 chosen) (sym grown.notes) (agree-meets (length (nodes_of states)) s r.0 chosen (notes_of states) r.1 below h.meets);
+          sorted = agree-sorted (nodes_of states) s r.0 chosen proper r.1 types h.sorted;
+        },
+      );
 }
   where
     append_nothing : (l : List ℕ) → l ++ [] ≡ l

@@ -188,16 +188,18 @@ sorts-alike : (nodes : List Node) (chosen : ℕ → Sort) (s r : Assignment) →
 sorts-alike nodes chosen s r hs hr chose zero i ends = absurd ends
 sorts-alike nodes chosen s r hs hr chose (suc steps) i ends = record {
   sort = node-sort (IsRest nodes i) (IsRest nodes i) chosen s r i (node_at nodes i) (hs.fits i) (hr.fits i) (chose i)
-      (each-map (EndsWithin nodes steps) (Alike chosen s r) (λ k e. sorts-alike nodes chosen s r hs hr chose steps k e) (below (node_at nodes i)) ends)
+      (each-map (EndsWithin nodes steps) (Alike chosen s r) (λ k e. sorts-alike nodes chosen s r hs hr chose steps k e) (below (node_at nodes i)) ends);
 }
 
 pub variables-sorted : (nodes : List Node) (bound : ℕ) (chosen : ℕ → Sort) (s : Assignment) → IsSound nodes bound → Solves nodes s → (r : Assignment) × SortsVariables nodes chosen s r
 variables-sorted nodes bound chosen s sound h =
     let choice = λ (i : ℕ). choice_at chosen (node_at nodes i) (s i) in
     let found = variables-chosen nodes bound s choice sound h (λ i. choice-order chosen (node_at nodes i) (s i) (h.in_order i))
-        (λ i. choice-allowed nodes chosen s i (node_at nodes i) h (h.fits i)) in
-    (found.0, record {
-      solves = found.1;
-      same = λ i. (sorts-alike nodes chosen s found.0 h found.1 found.2 bound i (sound.deep i)).sort;
-      sorted = λ i v. variable-sorted chosen (s i) (found.0 i) (node_at nodes i) v (found.2 i);
-    })
+    (λ i. choice-allowed nodes chosen s i (node_at nodes i) h (h.fits i)) in (
+      found.0,
+      record {
+        solves = found.1;
+        same = λ i. (sorts-alike nodes chosen s found.0 h found.1 found.2 bound i (sound.deep i)).sort;
+        sorted = λ i v. variable-sorted chosen (s i) (found.0 i) (node_at nodes i) v (found.2 i);
+      },
+    )

@@ -98,7 +98,7 @@ waits-on nodes bound simple term end form terms waiting rest after notes noted s
           let m = meets-apart s chosen notes (asked simple form) meets in
           let waits = each-apart (IsSorted chosen s) rest (parts form) sorted in
           let t = parts-sorted (IsRest nodes end) chosen s simple form (s end) simple_is (rest-tells nodes bound sound end no_link)
-              (λ v. variables end (subst IsVariable (sym is) v)) (fit s h) m.1 waits.1 in
+          (λ v. variables end (subst IsVariable (sym is) v)) (fit s h) m.1 waits.1 in
           w.only chosen s h simple_is variables m.0
           (subst (AreSorted chosen s) (sym e) (each-append (IsSorted chosen s) rest (term ∷ []) waits.0 (subst (IsWellSorted chosen) (sym (links-same nodes s end term h leads)) t, tt)));
     }))
