@@ -118,7 +118,8 @@ impl Conditions {
         Ok(tail)
     }
 
-    /// Two types are to be equal. Refused exactly where none that satisfy the conditions are.
+    /// Two types are to be equal. Refused only where none that satisfy the conditions are; where it isn't, notes on sorts
+    /// may still leave none.
     pub fn equate(&mut self, alloc: Global, a: TermId, b: TermId) -> Result<(), Halt<NoSolution>>
         requires first { IsType (terms_in self.old) a }
         requires second { IsType (terms_in self.old) b }

@@ -1,0 +1,5 @@
+use Rattle.conditions_tests.proofs.Made.{added}
+use Rattle.conditions_tests.proofs.scene.make.Goals as goal
+
+pub returns : goal.returns
+returns c = added _ _ _ _ _ _ _ c.requires.made c.in_ok-at.ensures.adds c.in_ok-at.ensures.tails c.in_ok-push.ensures.ok
