@@ -1,5 +1,5 @@
 -- What the types of old terms decide.
-use Rattle.std.proofs.Common.{◌≡◌, ◌≢◌, ℕ, ◌<◌, ◌≤◌, List, [], ◌∷◌, ◌++◌, length, refl, sym, ◌∙◌, ap, subst, arith, inl, inr}
+use Rattle.std.proofs.Common.{◌≡◌, ℕ, List, [], ◌∷◌, ◌++◌, length, refl, sym, subst, arith, inl, inr}
 use Rattle.elm_typing.specs.Ground.{Ground}
 use Rattle.elm_typing.specs.Sorts.{Sort, IsAtMost, IsWellSorted, sort_of}
 use Rattle.type_terms.specs.declared.node.Node.{Node}
@@ -10,7 +10,7 @@ use Rattle.type_terms.proofs.Composed.{with-cases}
 use Rattle.type_unify.specs.Rests.{IsType}
 use Rattle.type_unify.specs.Taken.{Agree}
 use Rattle.type_sorts.specs.Sorts.{Meets}
-use Rattle.well_sorted.specs.Asking.{IsSorted, AreSorted}
+use Rattle.well_sorted.specs.Asking.{AreSorted}
 
 pub agree-meets : (n : ℕ) (s r : Assignment) (chosen : ℕ → Sort) (notes : List (ℕ × ℕ)) → Agree n s r → AreNotesBelow n notes → Meets s chosen notes → Meets r chosen notes
 agree-meets n s r chosen [] agree below h = tt

@@ -1,11 +1,10 @@
 -- One growth after the other.
-use Rattle.std.proofs.Common.{◌≡◌, ℕ, ◌<◌, ◌≤◌, List, [], ◌∷◌, ◌++◌, ◌↔◌, length, refl, sym, ◌∙◌, ap, arith, Result, Ok, Err, IfOk}
+use Rattle.std.proofs.Common.{◌≡◌, ℕ, List, [], ◌∷◌, ◌++◌, ◌↔◌, length, refl, sym, ◌∙◌, ap, arith, Result, Ok, Err, IfOk}
 use Rattle.elm_typing.specs.Ground.{Ground}
 use Rattle.elm_typing.specs.Sorts.{Sort}
 use Rattle.type_terms.specs.Solutions.{Assignment}
-use Rattle.type_terms.specs.Terms.{State}
 use Rattle.type_unify.specs.Taken.{Agree}
-use Rattle.type_conditions.specs.Conditions.{Asked, terms_in, Satisfies}
+use Rattle.type_conditions.specs.Conditions.{Asked, terms_in}
 use Rattle.type_conditions.specs.Judging.{Grows, Adds, Judgement}
 
 append_nothing : {A : Type 0} (l : List A) → l ++ [] ≡ l

@@ -1,23 +1,22 @@
 -- From sorts that meet all notes to types that satisfy the conditions, and back.
-use Rattle.std.proofs.Common.{◌≡◌, ℕ, ◌<◌, ◌≤◌, List, [], ◌∷◌, ◌++◌, length, length-append, refl, sym, ◌∙◌, ap, subst, arith}
-use Rattle.elm_typing.specs.Ground.{Ground, Tuple, NoGrounds}
+use Rattle.std.proofs.Common.{◌≡◌, ℕ, ◌<◌, List, [], ◌∷◌, ◌++◌, length, refl, sym, ◌∙◌, ap, subst, arith}
+use Rattle.elm_typing.specs.Ground.{Tuple, NoGrounds}
 use Rattle.elm_typing.specs.Sorts.{Sort, Simple, sort_of}
 use Rattle.type_terms.specs.declared.node.Node.{Node}
 use Rattle.type_terms.specs.declared.node.Node.TheVariants.{End}
 use Rattle.type_terms.specs.declared.shape.Shape.TheVariants as shape
 use Rattle.type_terms.specs.Depth.{AreNotesBelow, IsSound, IsStored, doubled}
 use Rattle.type_terms.specs.Solutions.{Assignment, Solves, FitsNode, with_type}
-use Rattle.type_terms.specs.Terms.{State, nodes_of, notes_of, with_term, with_note, node_at, Each, IsRest}
+use Rattle.type_terms.specs.Terms.{State, nodes_of, notes_of, with_term, with_note, Each, IsRest}
 use Rattle.type_terms.proofs.Pushed.{solves-pushed, solves-extended}
 use Rattle.type_terms.proofs.Sound.{node_at-new}
 use Rattle.type_unify.specs.Rests.{IsType}
-use Rattle.type_unify.specs.Taken.{Agree}
 use Rattle.type_sorts.specs.Sorts.{Meets}
-use Rattle.well_sorted.specs.Asking.{AreSorted, Tells, SortsVariables}
+use Rattle.well_sorted.specs.Asking.{Tells}
 use Rattle.well_sorted.proofs.Variables.{variables-sorted}
-use Rattle.type_conditions.specs.Conditions.{Satisfies, IsSatisfiable}
+use Rattle.type_conditions.specs.Conditions.{IsSatisfiable}
 use Rattle.type_conditions.specs.Deciding.{Noted}
-use Rattle.type_conditions.proofs.Agreeing.{agree-meets, agree-sorted, with_type-agrees, with_type-itself, meets-append, meets-apart, same-meets}
+use Rattle.type_conditions.proofs.Agreeing.{agree-meets, agree-sorted, with_type-agrees, meets-append, meets-apart, same-meets}
 
 -- the store with a simple type
 abbrev pub with_unit : List State → List State

@@ -1,9 +1,9 @@
 -- Conditions that one call adds.
-use Rattle.std.proofs.Common.{◌≡◌, ℕ, ◌<◌, ◌≤◌, List, [], ◌∷◌, ◌++◌, ◌↔◌, length, length-append, refl, sym, ◌∙◌, ap, subst, arith, Some, None, Result, Ok, Err, OnOk, OnErr}
+use Rattle.std.proofs.Common.{◌≡◌, ℕ, List, [], ◌∷◌, ◌++◌, ◌↔◌, length, length-append, refl, sym, ◌∙◌, ap, subst, arith, Some, None, Result, Ok, Err, OnOk, OnErr}
 use Rattle.elm_typing.specs.declared.flag.Flag.TheVariants.{Plain}
 use Rattle.elm_typing.specs.Ground.{Ground, Row, Record, Ends}
 use Rattle.elm_typing.specs.Rows.{extended_all}
-use Rattle.elm_typing.specs.Sorts.{Sort, IsAtMost, sort_of}
+use Rattle.elm_typing.specs.Sorts.{Sort}
 use Rattle.type_terms.specs.declared.node.Node.{Node}
 use Rattle.type_terms.specs.declared.node.Node.TheVariants.{End}
 use Rattle.type_terms.specs.declared.shape.Shape.{Shape}
@@ -24,8 +24,8 @@ use Rattle.type_unify.specs.Taken.{Agree, rest_term}
 use Rattle.type_unify.specs.Unifying.{Unifies}
 use Rattle.type_sorts.specs.Sorts.{Meets}
 use Rattle.well_sorted.specs.Asking.{AreSorted}
-use Rattle.type_conditions.specs.Conditions.{Asked, terms_in, noted_in, Satisfies, Excludes}
-use Rattle.type_conditions.specs.Judging.{IsWell, Grows, Adds, Opens, HasFields, Restricts, AreEqual, IsBelow}
+use Rattle.type_conditions.specs.Conditions.{Asked, Excludes}
+use Rattle.type_conditions.specs.Judging.{IsWell, Adds, Opens, HasFields, Restricts, AreEqual, IsBelow}
 use Rattle.type_conditions.proofs.Agreeing.{agree-meets, agree-sorted, with_type-agrees, with_type-itself, sorted-append, sorted-apart, meets-append, meets-apart}
 
 no_rest-adds : (nodes : List Node) (form : Shape) → HasNoRest form → AddsNoRest nodes form

@@ -1,37 +1,33 @@
 -- Variables that are added one by one.
-use Rattle.std.proofs.Common.{◌≡◌, ℕ, ◌<◌, ◌≤◌, Bool, true, false, ◌&&◌, ◌||◌, ◌↔◌, List, [], ◌∷◌, ◌++◌, ◌⊎◌, length, get_or, take, refl, sym, ◌∙◌, ap, subst, inl, inr, arith, zero, suc, ◌+◌, codes, add-one}
+use Rattle.std.proofs.Common.{◌≡◌, ℕ, ◌<◌, ◌≤◌, Bool, true, false, ◌&&◌, ◌||◌, List, [], ◌∷◌, ◌++◌, length, get_or, take, refl, sym, ◌∙◌, ap, subst, inl, inr, arith, zero, suc, ◌+◌, codes, add-one}
 use Rattle.std.specs.Str.{bytes_eq}
 use Rattle.std.proofs.Math.Seq.{take-suc}
 use Rattle.std.proofs.lemmas.Bool.{false≢true}
 use Rattle.elm_typing.specs.declared.flag.Flag.{Flag}
-use Rattle.elm_typing.specs.declared.flag.Flag.TheVariants.{Plain}
 use Rattle.elm_typing.specs.Flags.{HasFlag}
 use Rattle.elm_typing.specs.Ground.{Ground, Row, Record, Named, NoGrounds}
 use Rattle.elm_typing.specs.Names.{int_name}
 use Rattle.elm_typing.specs.Ordered.{InOrder}
-use Rattle.elm_typing.specs.Sorts.{Sort}
-use Rattle.elm_typing.specs.Spelling.{int}
 use Rattle.elm_typing.proofs.LabelOrder.{decided, bytes_eq_itself, bytes_eq_same}
-use Rattle.typing_rules.specs.WrittenTypes.{Choice, Allows, IsIntWhere, IsRecord, row_of, begins, flag_of}
+use Rattle.typing_rules.specs.WrittenTypes.{Allows, IsIntWhere, IsRecord, row_of, begins, flag_of}
 use Rattle.type_sorts.specs.Vertices.{Member}
 use Rattle.type_terms.specs.Solutions.{Assignment, Fits}
 use Rattle.type_terms.specs.declared.shape.Shape.TheVariants as shape
 use Rattle.type_unify.specs.declared.rows.Tail.{Tail}
-use Rattle.type_unify.specs.declared.rows.Tail.TheVariants.{Closed, Open}
+use Rattle.type_unify.specs.declared.rows.Tail.TheVariants.{Closed}
 use Rattle.type_unify.specs.Rests.{IsType}
 use Rattle.type_unify.specs.Steps.{IsTail, under}
-use Rattle.type_unify.specs.Taken.{Agree}
-use Rattle.type_conditions.specs.Conditions.{Asked, terms_in, Satisfies}
-use Rattle.type_conditions.specs.Judging.{Grows, Adds, Opens, HasFields, IsWell, KeepsTails}
+use Rattle.type_conditions.specs.Conditions.{Asked, terms_in}
+use Rattle.type_conditions.specs.Judging.{Adds, Opens, HasFields, IsWell, KeepsTails}
 use Rattle.type_conditions.proofs.Composing.{grows-itself, grows-on, agree-less, agree-on, adds-same}
 use Rattle.type_instances.specs.declared.uses.Use.{Use}
 use Rattle.type_instances.specs.declared.table.Variable.{Variable}
 use Rattle.type_instances.specs.Uses.{use_of, EachUse, AllowsAt}
-use Rattle.type_instances.specs.Tables.{is_open, IsRowWhere, Knows, EachVariable, Serves, ServesAt, Stands, IsTable, IsUsed, AllowsTail, tail_of}
+use Rattle.type_instances.specs.Tables.{is_open, IsRowWhere, Knows, EachVariable, Serves, ServesAt, Stands, IsTable, IsUsed, AllowsTail}
 use Rattle.type_instances.specs.Building.{Chooses}
 use Rattle.type_instances.specs.Choosing.{is_before, is_known, AddsVariable}
 use Rattle.type_instances.proofs.Choices.{uses-append, number-plain, record-is}
-use Rattle.type_instances.proofs.Standing.{variables-map, variables-both, variables-behind, variables-front, term-known, table-kept}
+use Rattle.type_instances.proofs.Standing.{variables-both, variables-behind, variables-front, term-known, table-kept}
 
 -- one variable --
 

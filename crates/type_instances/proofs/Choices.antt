@@ -1,21 +1,20 @@
 -- What the uses of variables decide of an instance.
-use Rattle.std.proofs.Common.{◌≡◌, ℕ, Bool, true, false, not, ◌&&◌, ◌||◌, ◌↔◌, Option, Some, None, List, [], ◌∷◌, ◌++◌, ◌⊎◌, refl, sym, ◌∙◌, ap, subst, inl, inr, codes}
+use Rattle.std.proofs.Common.{◌≡◌, ℕ, Bool, true, false, not, ◌&&◌, Some, None, List, [], ◌∷◌, ◌++◌, refl, sym, ◌∙◌, ap, subst, codes}
 use Rattle.std.proofs.lemmas.Bool.{eqb-true}
 use Rattle.elm_typing.specs.declared.flag.Flag.{Flag}
 use Rattle.elm_typing.specs.declared.flag.Flag.TheVariants.{Plain, Comparable, Appendable, Both}
 use Rattle.elm_typing.specs.Flags.{HasFlag}
-use Rattle.elm_typing.specs.Ground.{Ground, Grounds, Row, Record, Ends, Function, Named as NamedGround, Tuple as TupleGround, Opaque, NoGrounds, AndGround}
+use Rattle.elm_typing.specs.Ground.{Ground, Row, Record, Ends, Function, Named as NamedGround, Tuple as TupleGround, Opaque}
 use Rattle.elm_typing.specs.Ordered.{InOrder, AllInOrder, RowInOrder}
 use Rattle.elm_typing.specs.Rows.{extended}
 use Rattle.elm_typing.specs.Sorts.{Sort, IsWellSorted, AreSimple, HasSimpleFields}
-use Rattle.elm_typing.proofs.LabelOrder.{decided}
 use Rattle.elm_typing.proofs.RowMaps.{extended-in_order}
-use Rattle.typing_rules.specs.WrittenTypes.{Written, Writtens, WrittenFields, Variable, Named, Arrow, Tuple, Fields, NoWrittens, AndWritten, NoWrittenFields, AndWrittenField, Choice, Allows, IsIntWhere, IsRecord, IsRecordWhere, Respects, AllRespect, FieldsRespect, instance_at, instances_at, fields_at, rest_at, row_of, begins, flag_of}
-use Rattle.written_sorts.specs.Sorting.{bars_hold, bars_hold_all, bars_hold_fields, free_before, is_free, is_plain}
+use Rattle.typing_rules.specs.WrittenTypes.{Written, Writtens, WrittenFields, Variable, Named, Arrow, Tuple, Fields, NoWrittens, AndWritten, NoWrittenFields, AndWrittenField, Choice, Allows, IsIntWhere, IsRecord, Respects, AllRespect, FieldsRespect, instance_at, instances_at, fields_at, row_of, begins, flag_of}
+use Rattle.written_sorts.specs.Sorting.{bars_hold, bars_hold_all, bars_hold_fields, is_free, is_plain}
 use Rattle.well_sorted.proofs.Sorting.{field-apart}
 use Rattle.type_conditions.specs.Judging.{IsWell}
 use Rattle.type_instances.specs.declared.uses.Use.{Use}
-use Rattle.type_instances.specs.Uses.{uses, uses_in, uses_in_fields, use_of, EachUse, AllowsAt, AllowsUse}
+use Rattle.type_instances.specs.Uses.{uses, uses_in, uses_in_fields, EachUse, AllowsUse}
 
 pub uses-append : (P : Use → Type 0) (us vs : List Use) → EachUse P us → EachUse P vs → EachUse P (us ++ vs)
 uses-append P [] vs h k = k

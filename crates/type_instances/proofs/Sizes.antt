@@ -1,6 +1,5 @@
 -- The parts of a written tree, and how many nodes it has.
-use Rattle.std.proofs.Common.{◌≡◌, ℕ, zero, suc, ◌+◌, ◌<◌, ◌≤◌, true, Option, Some, None, List, [], ◌∷◌, ◌++◌, length, get_or, map, refl, sym, ◌∙◌, ap, subst, arith}
-use Rattle.std.specs.List.{flat_map}
+use Rattle.std.proofs.Common.{◌≡◌, ℕ, zero, suc, ◌+◌, ◌<◌, true, Option, Some, None, List, [], ◌∷◌, ◌++◌, length, get_or, map, refl, sym, ◌∙◌, ap, subst, arith}
 use Rattle.elm_base.specs.declared.token.At.{At}
 use Rattle.elm_base.specs.declared.tree.Spot.{Spot}
 use Rattle.elm_base.specs.declared.tree.TypeTree.{TypeTree}
@@ -13,7 +12,7 @@ use Rattle.typing_rules.specs.Library.{writtens}
 use Rattle.type_sense.specs.WrittenOf.{name_before, written_fields, written_step, written_of}
 use Rattle.type_instances.specs.declared.uses.Use.{Use}
 use Rattle.type_instances.specs.declared.table.Variable.{Variable}
-use Rattle.type_instances.specs.Uses.{uses, uses_in, uses_in_fields, use_of, EachUse}
+use Rattle.type_instances.specs.Uses.{uses, uses_in, uses_in_fields, use_of}
 use Rattle.type_instances.specs.Listing.{uses_in_trees, uses_of_fields, before_uses}
 use Rattle.type_instances.specs.Tables.{Serves, ServesAt, Knows, is_open, tail_of}
 use Rattle.type_instances.proofs.Choices.{uses-apart}

@@ -1,23 +1,19 @@
 -- What a table of variables says of the types of its terms.
-use Rattle.std.proofs.Common.{◌≡◌, ℕ, ◌<◌, ◌≤◌, Bool, true, false, List, [], ◌∷◌, ◌++◌, ◌⊎◌, length, refl, sym, ◌∙◌, ap, subst, inl, inr, if◌then◌else◌}
+use Rattle.std.proofs.Common.{◌≡◌, ℕ, Bool, true, false, List, [], ◌∷◌, ◌++◌, length, refl, sym, ◌∙◌, ap, subst, inl, inr, if◌then◌else◌}
 use Rattle.std.specs.Str.{bytes_eq}
 use Rattle.std.proofs.lemmas.Bool.{false≢true}
-use Rattle.elm_typing.specs.Ground.{Ground, Record, Tuple, NoGrounds}
-use Rattle.elm_typing.specs.Sorts.{Sort}
 use Rattle.elm_typing.proofs.LabelOrder.{decided, bytes_eq_itself, bytes_eq_same}
-use Rattle.typing_rules.specs.WrittenTypes.{Choice, IsRecord}
-use Rattle.type_sorts.specs.Vertices.{Member}
+use Rattle.typing_rules.specs.WrittenTypes.{Choice}
 use Rattle.type_terms.specs.declared.node.Node.{Node}
 use Rattle.type_terms.specs.Solutions.{Assignment}
 use Rattle.type_unify.specs.declared.rows.Tail.{Tail}
-use Rattle.type_unify.specs.declared.rows.Tail.TheVariants.{Closed, Rigid, Open}
 use Rattle.type_unify.specs.Rests.{IsType}
-use Rattle.type_unify.specs.Steps.{IsTail, under}
+use Rattle.type_unify.specs.Steps.{IsTail}
 use Rattle.type_unify.specs.Taken.{Agree}
-use Rattle.type_conditions.specs.Conditions.{Asked, terms_in, Satisfies}
-use Rattle.type_conditions.specs.Judging.{Grows, IsWell, KeepsTails}
+use Rattle.type_conditions.specs.Conditions.{Asked, terms_in}
+use Rattle.type_conditions.specs.Judging.{Grows, KeepsTails}
 use Rattle.type_instances.specs.declared.table.Variable.{Variable}
-use Rattle.type_instances.specs.Tables.{choice_of, term_of, tail_of, is_open, Knows, EachVariable, Stands, IsTable}
+use Rattle.type_instances.specs.Tables.{choice_of, term_of, tail_of, Knows, EachVariable, IsTable}
 
 pub variables-map : (P Q : Variable → Type 0) → ((v : Variable) → P v → Q v) → (vs : List Variable) → EachVariable P vs → EachVariable Q vs
 variables-map P Q f [] h = tt

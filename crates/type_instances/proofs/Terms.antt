@@ -1,10 +1,10 @@
 -- Terms of instances, form by form.
-use Rattle.std.proofs.Common.{◌≡◌, ℕ, ◌<◌, ◌≤◌, zero, suc, ◌+◌, Bool, true, false, Option, Some, None, List, [], ◌∷◌, ◌++◌, length, get_or, take, map, refl, sym, ◌∙◌, ap, subst, arith, add-one}
+use Rattle.std.proofs.Common.{◌≡◌, ℕ, ◌<◌, ◌+◌, true, Option, Some, None, List, [], ◌∷◌, ◌++◌, length, get_or, take, map, refl, sym, ◌∙◌, ap, subst, add-one}
 use Rattle.std.proofs.Math.Seq.{take-suc}
 use Rattle.elm_base.specs.declared.tree.Spot.{Spot}
 use Rattle.elm_base.specs.declared.tree.TypeTree.{TypeTree}
-use Rattle.elm_typing.specs.Ground.{Ground, Grounds, Row, Record, Ends, Function, Named as NamedGround, Tuple as TupleGround, NoGrounds, AndGround}
-use Rattle.elm_typing.specs.Ordered.{InOrder, AllInOrder, RowInOrder}
+use Rattle.elm_typing.specs.Ground.{Ground, Grounds, Row, Record, Function, Named as NamedGround, Tuple as TupleGround, NoGrounds, AndGround}
+use Rattle.elm_typing.specs.Ordered.{AllInOrder, RowInOrder}
 use Rattle.elm_typing.specs.Rows.{extended, extended_all}
 use Rattle.elm_typing.specs.Sorts.{Sort, AreSimple, HasSimpleFields}
 use Rattle.elm_typing.proofs.RowMaps.{extended-in_order}
@@ -15,21 +15,20 @@ use Rattle.type_terms.specs.Solutions.{Assignment, Fits, types_of, fields_of}
 use Rattle.type_terms.specs.declared.shape.Shape.TheVariants as shape
 use Rattle.type_terms.specs.Terms.{Each, terms_of}
 use Rattle.type_unify.specs.declared.rows.Tail.{Tail}
-use Rattle.type_unify.specs.declared.rows.Tail.TheVariants.{Closed}
 use Rattle.type_unify.specs.Rests.{IsType}
 use Rattle.type_unify.specs.Steps.{IsTail, under}
 use Rattle.type_unify.specs.Taken.{Agree}
 use Rattle.well_sorted.proofs.Sorting.{field-apart}
 use Rattle.type_conditions.specs.Conditions.{Asked, terms_in, Satisfies}
-use Rattle.type_conditions.specs.Judging.{Grows, Adds, HasFields, IsWell, KeepsTails}
+use Rattle.type_conditions.specs.Judging.{Adds, HasFields, IsWell, KeepsTails}
 use Rattle.type_conditions.proofs.Composing.{grows-itself, grows-on, agree-less, agree-on}
 use Rattle.type_instances.specs.declared.table.Variable.{Variable as TableVariable}
-use Rattle.type_instances.specs.Uses.{uses, EachUse}
-use Rattle.type_instances.specs.Tables.{choice_of, term_of, tail_of, tail_before, is_open, Knows, EachVariable, Stands, IsTable, IsRowWhere}
+use Rattle.type_instances.specs.Uses.{uses}
+use Rattle.type_instances.specs.Tables.{choice_of, term_of, tail_of, tail_before, is_open, Knows, Stands, IsTable, IsRowWhere}
 use Rattle.type_instances.specs.Building.{instance_in, instances_in, Builds, BuildsAll, BuildsFields, EachWell, trees_in, labels_in, labels_of}
 use Rattle.type_instances.proofs.Choices.{same-instance, uses-all, SameAt}
 use Rattle.type_instances.proofs.Sizes.{ServesBefore, typed}
-use Rattle.type_instances.proofs.Standing.{term-known, choice-known, tail-known, choice-agrees, table-kept}
+use Rattle.type_instances.proofs.Standing.{term-known, choice-known, tail-known, choice-agrees}
 
 -- an instance sees the types of old terms alone
 pub instance-agrees : (asked : Asked) (table : List TableVariable) (s r : Assignment) (w : Written) → IsTable asked table → Agree (length (terms_in asked)) s r → instance_in table s w ≡ instance_in table r w

@@ -1,16 +1,13 @@
 -- From a table of variables and a term to the instances of a written type.
-use Rattle.std.proofs.Common.{◌≡◌, ℕ, Bool, true, false, List, [], ◌∷◌, ◌⊎◌, length, refl, sym, ◌∙◌, ap, subst, inl, inr}
+use Rattle.std.proofs.Common.{◌≡◌, ℕ, Bool, true, false, List, [], ◌∷◌, length, refl, sym, ◌∙◌, subst, inl, inr}
 use Rattle.elm_typing.specs.Ground.{Ground, Record}
 use Rattle.elm_typing.specs.Sorts.{Sort}
-use Rattle.elm_typing.proofs.LabelOrder.{decided}
-use Rattle.typing_rules.specs.WrittenTypes.{Written, Choice, Allows, IsRecord, Respects, IsInstance, instance_at}
-use Rattle.written_sorts.specs.Sorting.{bars_hold, is_free}
+use Rattle.typing_rules.specs.WrittenTypes.{Written, Choice, Allows, IsRecord, IsInstance, instance_at}
+use Rattle.written_sorts.specs.Sorting.{bars_hold}
 use Rattle.type_sorts.specs.Vertices.{Member}
 use Rattle.type_terms.specs.Solutions.{Assignment}
-use Rattle.type_unify.specs.declared.rows.Tail.{Tail}
 use Rattle.type_unify.specs.Steps.{under}
-use Rattle.type_unify.specs.Taken.{Agree}
-use Rattle.type_conditions.specs.Conditions.{Asked, terms_in, Satisfies}
+use Rattle.type_conditions.specs.Conditions.{Asked, terms_in}
 use Rattle.type_conditions.specs.Judging.{Adds, IsWell}
 use Rattle.type_conditions.proofs.Composing.{grows-on, agree-less, agree-on}
 use Rattle.type_instances.specs.declared.uses.Use.{Use}

@@ -6,7 +6,7 @@ use Rattle.elm_typing.specs.Ground.{Ground}
 use Rattle.elm_typing.specs.Sorts.{Sort}
 use Rattle.typing_rules.specs.WrittenTypes.{Written, Choice, instance_at}
 use Rattle.type_sense.specs.WrittenOf.{written_of}
-use Rattle.type_terms.specs.Solutions.{Assignment, fields_of}
+use Rattle.type_terms.specs.Solutions.{Assignment}
 use Rattle.type_terms.specs.Terms.{Each, terms_of}
 use Rattle.type_unify.specs.Rests.{IsType}
 use Rattle.type_unify.specs.Taken.{Agree}

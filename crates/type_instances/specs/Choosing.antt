@@ -1,5 +1,5 @@
 -- For private contracts: variables that are added one by one.
-use Rattle.std.specs.Prelude.{◌≡◌, ℕ, Bool, true, false, ◌&&◌, ◌||◌, List, [], ◌∷◌, ◌++◌, length}
+use Rattle.std.specs.Prelude.{◌≡◌, ℕ, Bool, false, ◌&&◌, ◌||◌, List, [], ◌∷◌, ◌++◌, length}
 use Rattle.std.specs.Str.{bytes_eq}
 use Rattle.elm_typing.specs.Ground.{Ground}
 use Rattle.elm_typing.specs.Sorts.{Sort}
@@ -11,7 +11,6 @@ use Rattle.type_conditions.specs.Conditions.{Asked, terms_in, Satisfies}
 use Rattle.type_conditions.specs.Judging.{Grows, IsWell, KeepsTails}
 use Rattle.type_instances.specs.declared.uses.Use.{Use}
 use Rattle.type_instances.specs.declared.table.Variable.{Variable}
-use Rattle.type_instances.specs.Uses.{AllowsAt}
 use Rattle.type_instances.specs.Tables.{is_open, Stands, AllowsTail}
 
 -- some use of the name stands before a bar

@@ -1,5 +1,5 @@
 -- The uses in lists of trees.
-use Rattle.std.specs.Prelude.{ℕ, Option, Some, None, List, [], ◌∷◌, true}
+use Rattle.std.specs.Prelude.{Option, Some, None, List, [], ◌∷◌, true}
 use Rattle.std.specs.List.{flat_map}
 use Rattle.elm_base.specs.declared.tree.Spot.{Spot}
 use Rattle.elm_base.specs.declared.tree.TypeTree.{TypeTree}

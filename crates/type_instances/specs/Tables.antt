@@ -3,10 +3,9 @@ use Rattle.std.specs.Prelude.{◌≡◌, ℕ, Bool, true, false, Option, Some, N
 use Rattle.std.specs.Str.{bytes_eq}
 use Rattle.elm_typing.specs.Ground.{Ground, Record, Tuple, NoGrounds}
 use Rattle.elm_typing.specs.Sorts.{Sort}
-use Rattle.typing_rules.specs.WrittenTypes.{Written, Choice, Allows, IsRecord, instance_at}
+use Rattle.typing_rules.specs.WrittenTypes.{Choice}
 use Rattle.type_sorts.specs.Vertices.{Member}
 use Rattle.type_terms.specs.Solutions.{Assignment}
-use Rattle.type_terms.specs.Terms.{Each}
 use Rattle.type_unify.specs.declared.rows.Tail.{Tail}
 use Rattle.type_unify.specs.declared.rows.Tail.TheVariants.{Closed, Rigid, Open}
 use Rattle.type_unify.specs.Rests.{IsType}

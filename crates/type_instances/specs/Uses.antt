@@ -1,5 +1,5 @@
 -- Where the variables of a written type stand.
-use Rattle.std.specs.Prelude.{ℕ, Bool, true, false, Option, Some, None, List, [], ◌∷◌, ◌++◌}
+use Rattle.std.specs.Prelude.{ℕ, Bool, true, false, Some, None, List, [], ◌∷◌, ◌++◌}
 use Rattle.elm_typing.specs.Ground.{Ground}
 use Rattle.typing_rules.specs.WrittenTypes.{Written, Writtens, WrittenFields, Variable, Named, Arrow, Tuple, Fields, NoWrittens, AndWritten, NoWrittenFields, AndWrittenField, Choice, Allows, IsRecord}
 use Rattle.type_instances.specs.declared.uses.Use.{Use}

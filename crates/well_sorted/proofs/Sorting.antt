@@ -1,6 +1,6 @@
 -- Well sorted types by the sorts of their parts.
-use Rattle.std.proofs.Common.{◌≡◌, ℕ, List, [], ◌∷◌, ◌++◌, ◌⊎◌, ◌↔◌, true, false, refl, sym, ◌∙◌, ap, subst, inl, inr, Some, None}
-use Rattle.elm_typing.specs.Ground.{Ground, Row, Record, Ends, Field, Function, Opaque}
+use Rattle.std.proofs.Common.{◌≡◌, ℕ, List, [], ◌∷◌, ◌⊎◌, refl, sym, subst, inl, inr, Some, None}
+use Rattle.elm_typing.specs.Ground.{Ground, Row, Ends, Field}
 use Rattle.elm_typing.specs.Labels.{is_after}
 use Rattle.elm_typing.specs.Rows.{extended, extended_all}
 use Rattle.elm_typing.specs.Sorts.{Sort, Simple, Signal, IsAtMost, IsWellSorted, AreSimple, HasSimpleFields, sort_of}
@@ -12,7 +12,7 @@ use Rattle.type_terms.specs.declared.shape.Shape.TheVariants as shape
 use Rattle.type_terms.specs.Solutions.{Assignment, Fits, types_of, fields_of}
 use Rattle.type_terms.specs.Terms.{terms_of, parts, IsVariable}
 use Rattle.type_sorts.specs.Sorts.{Meets}
-use Rattle.well_sorted.specs.Asking.{IsSorted, AreSorted, each_simple, asked}
+use Rattle.well_sorted.specs.Asking.{AreSorted, each_simple, asked}
 
 at_most-simple : (a : Sort) → IsAtMost a Simple → a ≡ Simple
 at_most-simple Simple h = refl

@@ -1,10 +1,9 @@
 -- The variables of a solution can be given well sorted types of the sorts that they have.
-use Rattle.std.proofs.Common.{◌≡◌, ℕ, zero, suc, List, [], ◌∷◌, refl, sym, ◌∙◌, ap, subst, inl, inr, Some, None, if◌then◌else◌}
-use Rattle.std.specs.Str.{bytes_eq}
+use Rattle.std.proofs.Common.{◌≡◌, ℕ, zero, suc, List, [], ◌∷◌, refl, sym, ◌∙◌, ap, subst, inr, Some, None, if◌then◌else◌}
 use Rattle.elm_typing.specs.declared.flag.Flag.{Flag}
 use Rattle.elm_typing.specs.declared.flag.Flag.TheVariants.{Plain, Comparable, Appendable, Both}
 use Rattle.elm_typing.specs.Flags.{HasFlag}
-use Rattle.elm_typing.specs.Ground.{Ground, Grounds, Row, Named, Function, Tuple, Record, Opaque, NoGrounds, Ends}
+use Rattle.elm_typing.specs.Ground.{Ground, Row, Named, Function, Tuple, Record, Opaque, NoGrounds, Ends}
 use Rattle.elm_typing.specs.Names.{string_name, signal_name, signal_of}
 use Rattle.elm_typing.specs.Ordered.{InOrder}
 use Rattle.elm_typing.specs.Sorts.{Sort, Simple, Signal, IsWellSorted, sort_of}
@@ -17,7 +16,7 @@ use Rattle.type_terms.specs.Depth.{EndsWithin, IsSound}
 use Rattle.type_terms.specs.Solutions.{Assignment, Solves, FitsNode, AllowsChoice, IsAsChosen}
 use Rattle.type_terms.specs.Terms.{node_at, below, Each, IsRest, IsVariable}
 use Rattle.type_terms.proofs.Existence.{solved-record, variables-chosen}
-use Rattle.well_sorted.specs.Asking.{AreVariablesSorted, SortsVariables}
+use Rattle.well_sorted.specs.Asking.{SortsVariables}
 
 unit : Ground
 unit = Tuple NoGrounds

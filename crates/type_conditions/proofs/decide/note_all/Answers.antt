@@ -1,6 +1,5 @@
-use Rattle.std.proofs.Common.{sym, refl}
 use Rattle.std.proofs.lemmas.List.{drop_more}
-use Rattle.type_conditions.proofs.Deciding.{left-first, left-inside, left-on}
+use Rattle.type_conditions.proofs.Deciding.{left-on}
 use Rattle.type_conditions.proofs.decide.note_all.Goals as goal
 
 pub loop-below-preserved : goal.loop-below-preserved

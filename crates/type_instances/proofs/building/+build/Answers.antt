@@ -1,9 +1,9 @@
-use Rattle.std.proofs.Common.{◌≡◌, ◌∙◌, ℕ, IfOk, arith, ap, subst, sym}
+use Rattle.std.proofs.Common.{◌∙◌, IfOk, arith, ap, subst, sym}
 use Rattle.typing_rules.specs.WrittenTypes.{Written}
 use Rattle.type_sense.specs.WrittenOf.{written_of}
 use Rattle.type_terms.proofs.Outcomes.{if_ok}
 use Rattle.type_instances.specs.Building.{Builds}
-use Rattle.type_instances.proofs.Sizes.{smaller-named, smaller-tuple, smaller-record, smaller-from, smaller-to, smaller-inner, smaller-tree, smaller-field-item, serves-variable, serves-named, serves-tuple, serves-from, serves-to, serves-inner, serves-before, serves-fields, serves-item, serves-field-item, written-variable, written-named, written-arrow, written-unit, written-tuple, written-record}
+use Rattle.type_instances.proofs.Sizes.{smaller-named, smaller-tuple, smaller-record, smaller-from, smaller-to, smaller-tree, smaller-field-item, serves-variable, serves-named, serves-tuple, serves-from, serves-to, serves-before, serves-fields, serves-item, serves-field-item, written-variable, written-named, written-arrow, written-unit, written-tuple, written-record}
 use Rattle.type_instances.proofs.Standing.{table-kept}
 use Rattle.type_instances.proofs.Terms.{builds-variable, builds-named, builds-arrow, builds-unit, builds-tuple, builds-record, tail-still, all-item, field-item}
 use Rattle.type_instances.proofs.building.+build.Goals as goal

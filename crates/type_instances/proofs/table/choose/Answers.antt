@@ -1,4 +1,4 @@
-use Rattle.std.proofs.Common.{◌∙◌, sym, ap, get_or, take}
+use Rattle.std.proofs.Common.{◌∙◌, sym}
 use Rattle.type_instances.proofs.Adding.{item-known, item-added, choosing-serves, take_past}
 use Rattle.type_instances.proofs.table.choose.Goals as goal
 use Rattle.type_instances.proofs.table.choose.Goals.{then-not-is_known+in_ok-add_variable, else-not-is_known}

@@ -1,4 +1,4 @@
-use Rattle.std.proofs.Common.{◌≡◌, ◌++◌, List, OnOk, ap, subst, sym}
+use Rattle.std.proofs.Common.{◌≡◌, ◌++◌, List, OnOk, subst, sym}
 use Rattle.type_terms.proofs.Outcomes.{on_ok}
 use Rattle.type_instances.specs.declared.uses.Use.{Use}
 use Rattle.type_instances.proofs.Sizes.{uses-of-named, uses-of-arrow, uses-of-tuple, uses-of-record, pushed-twice}
