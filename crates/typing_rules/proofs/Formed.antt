@@ -19,7 +19,7 @@ use Rattle.typing_rules.proofs.Derivations.{always_is, add, map_at, proper_int}
 -- conditions
 
 truth_has : Has truth bool
-truth_has = (record { sorted = tt; ordered = tt }, (codes "Basics.Bool", NoGrounds, NoGrounds, record { belongs = refl; allowed = tt; given = refl }, refl, refl))
+truth_has = (record { sorted = tt; ordered = tt }, (codes "Basics.Bool", NoGrounds, NoGrounds, record { belongs = refl; allowed = tt; respected = tt; given = refl }, refl, refl))
 
 pub chosen : Has (If truth (number 1) (number 2)) int
 chosen = (proper_int _, (truth_has, (proper_int _, refl), (proper_int _, refl)))

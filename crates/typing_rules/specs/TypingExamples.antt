@@ -7,10 +7,11 @@ use Rattle.elm_meaning.specs.declared.callee.Callee.TheVariants as callee
 use Rattle.elm_meaning.specs.Patterns.{Pattern}
 use Rattle.elm_meaning.specs.Values.{Value, Applicable, Closure, Partial, Tree}
 use Rattle.elm_meaning.specs.Spelling.{values}
-use Rattle.elm_typing.specs.Ground.{Ground}
+use Rattle.elm_typing.specs.Ground.{Ground, NoGrounds, AndGround}
 use Rattle.elm_typing.specs.Spelling.{all_simple}
 use Rattle.typing_rules.specs.WrittenTypes.{Written, Variable, NoWrittenFields, AndWrittenField}
 use Rattle.typing_rules.specs.Library.{library_unions, devices, int_}
+use Rattle.typing_rules.specs.Unions.{Union}
 use Rattle.typing_rules.specs.CorePatterns.{CorePattern, CorePatterns, NoCorePatterns, AndCorePattern}
 use Rattle.typing_rules.specs.Worlds.{Types, World, no_surroundings}
 use Rattle.typing_rules.specs.Core.{Core, Cores, CoreFields, CoreGuards, CoreBranches, Local, Top, Input, Literal, Native, Constructor, Lambda, Call, LetValue, LetFunctions, Tuple, Fields, Extend, Field, NoCores, AndCore, NoCoreFields, AndCoreField, NoCoreGuards, AndCoreGuard, NoCoreBranches, AndCoreBranch, NoCoreFunctions, AndCoreFunction}
@@ -169,3 +170,14 @@ partial number vs = Applicable (Partial (callee.Native number) (values vs))
 -- \x -> x
 abbrev pub identity : Value
 identity = Applicable (Closure (Pattern.Local 0) (Tree.Local 0))
+
+-- type T a = T { a | x : Int }
+abbrev pub boxes : List Union
+boxes = record {
+  name = codes "Main.T";
+  parameters = codes "a" ∷ [];
+  constructors = (codes "T", Written.Fields (Some (codes "a")) (AndWrittenField (codes "x") int_ NoWrittenFields) ∷ []) ∷ [];
+} ∷ []
+
+abbrev pub boxed : Ground → Ground
+boxed type = Ground.Named (codes "Main.T") (AndGround type NoGrounds)

@@ -4,7 +4,7 @@ use Rattle.std.specs.Prelude.{◌≡◌, ℕ, suc, Bool, true, false, if◌then�
 use Rattle.std.specs.Str.{bytes_eq}
 use Rattle.elm_typing.specs.Ground.{Ground, Grounds, NoGrounds, AndGround}
 use Rattle.elm_typing.specs.Names.{list_of}
-use Rattle.typing_rules.specs.WrittenTypes.{Written, Choice, Allows, instance_at}
+use Rattle.typing_rules.specs.WrittenTypes.{Written, Choice, Allows, Respects, instance_at}
 
 -- the name with its module, the parameters, and each constructor's name with the types of its arguments
 pub record Union : Type 0 where
@@ -40,6 +40,21 @@ abbrev pub types_at : Choice → List Written → Grounds
 types_at choice [] = NoGrounds
 types_at choice (w ∷ ws) = AndGround (instance_at choice w) (types_at choice ws)
 
+-- what respects the variables of each of the types
+abbrev pub EachRespects : Choice → List Written → Type 0
+EachRespects choice [] = Unit {0}
+EachRespects choice (w ∷ ws) = Respects choice w × EachRespects choice ws
+
+abbrev pub EitherOf : Bool → Type 0 → Type 0 → Type 0
+EitherOf true A B = A
+EitherOf false A B = B
+
+-- the arguments of the constructor are respected: a variable before a bar stands for a record, as in functions
+abbrev pub RespectsAmong : List ℕ → Choice → List (List ℕ × List Written) → Type 0
+RespectsAmong constructor choice [] = Unit {0}
+RespectsAmong constructor choice (c ∷ cs) =
+    EitherOf (bytes_eq c.0 constructor) (EachRespects choice c.1) (RespectsAmong constructor choice cs)
+
 abbrev pub parts_among : List ℕ → Choice → List (List ℕ × List Written) → Option Grounds
 parts_among constructor choice [] = None
 parts_among constructor choice (c ∷ cs) =
@@ -69,6 +84,7 @@ IsOf (Some union) name = union ≡ name
 pub record Makes (unions : List Union) (union : Option (List ℕ)) (constructor : List ℕ) (name : List ℕ) (types parts : Grounds) : Type 0 where
   pub belongs : IsOf union name
   pub allowed : AllAllowed (parameters_in (union_named name unions)) types
+  pub respected : RespectsAmong constructor (arguments_for (parameters_in (union_named name unions)) types) (constructors_in (union_named name unions))
   pub given : parts_of unions name types constructor ≡ Some parts
 
 -- the constructor of so many arguments as a function

@@ -7,7 +7,7 @@ ghost use Rattle.elm_typing.specs.Spelling.{int, string, bool, maybe, result_of,
 ghost use Rattle.typing_rules.specs.Library.{library_unions};
 ghost use Rattle.typing_rules.specs.Unions.{ConstructorGives};
 ghost use Rattle.typing_rules.specs.CorePatterns.{CorePattern, Fits};
-ghost use Rattle.typing_rules.specs.TypingExamples.{functions, name, patterns, made};
+ghost use Rattle.typing_rules.specs.TypingExamples.{boxed, boxes, functions, name, patterns, made};
 
 /// A pattern fits the types of its shape, and its names have the types at their places.
 pub fn patterns_fit_types()
@@ -46,7 +46,8 @@ pub fn patterns_fit_types()
         ((3, int) ∷ (4, maybe int) ∷ []) }
 {}
 
-/// A constructor is a function that makes a value of its union, and `::` one that makes a list.
+/// A constructor is a function that makes a value of its union, and `::` one that makes a list. What stands before a bar
+/// in an argument is a record.
 pub fn constructors_have_types()
     ensures just { ConstructorGives library_unions None (codes "Just") 1 (functions (int ∷ [])
         (maybe int)) }
@@ -59,6 +60,10 @@ pub fn constructors_have_types()
         (maybe int)) → ⊥ }
     ensures other { ConstructorGives library_unions None (codes "Just") 1 (functions (int ∷ [])
         (maybe bool)) → ⊥ }
+    ensures boxed { ConstructorGives boxes None (codes "T") 1
+        (functions (record_of (("x", int) ∷ []) ∷ []) (boxed (record_of []))) }
+    ensures unboxed { ConstructorGives boxes None (codes "T") 1
+        (functions (record_of (("x", int) ∷ []) ∷ []) (boxed int)) → ⊥ }
     ensures truth { ConstructorGives library_unions None (codes "True") 0 bool }
     ensures cons { ConstructorGives library_unions None (codes "::") 2 (functions (int ∷
         list_of int ∷ []) (list_of int)) }

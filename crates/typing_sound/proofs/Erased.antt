@@ -27,7 +27,7 @@ use Rattle.typing_sound.proofs.Natives.{safe_native}
 -- patterns
 
 makes_any : (us : List Union) (u : Option (List ℕ)) (c n : List ℕ) (ts ps : Grounds) → Makes us u c n ts ps → Makes us None c n ts ps
-makes_any us u c n ts ps m = record { belongs = tt; allowed = m.allowed; given = m.given }
+makes_any us u c n ts ps m = record { belongs = tt; allowed = m.allowed; respected = m.respected; given = m.given }
 
 mutual
   pub fits_erased : (us : List Union) (p : CorePattern) (t : Ground) (b : Bound) → Fits us p t b → Fits us (core_pattern (erased_pattern p)) t b

@@ -337,19 +337,19 @@ module _ (w : World) (l : HasLibrary w) where
                                                                                       (
                                                                                         safe_flow 42,
                                                                                         (
-                                                                                          (λ c p. enumerated w l (codes "Graphics.Element.Direction") (codes "up") refl tt),
+                                                                                          (λ c p. enumerated w l (codes "Graphics.Element.Direction") (codes "up") refl tt tt),
                                                                                           (
-                                                                                            (λ c p. enumerated w l (codes "Graphics.Element.Direction") (codes "down") refl tt),
+                                                                                            (λ c p. enumerated w l (codes "Graphics.Element.Direction") (codes "down") refl tt tt),
                                                                                             (
-                                                                                              (λ c p. enumerated w l (codes "Graphics.Element.Direction") (codes "left") refl tt),
+                                                                                              (λ c p. enumerated w l (codes "Graphics.Element.Direction") (codes "left") refl tt tt),
                                                                                               (
-                                                                                                (λ c p. enumerated w l (codes "Graphics.Element.Direction") (codes "right") refl tt),
+                                                                                                (λ c p. enumerated w l (codes "Graphics.Element.Direction") (codes "right") refl tt tt),
                                                                                                 (
-                                                                                                  (λ c p. enumerated w l (codes "Graphics.Element.Position") (codes "topLeft") refl tt),
+                                                                                                  (λ c p. enumerated w l (codes "Graphics.Element.Position") (codes "topLeft") refl tt tt),
                                                                                                   (
-                                                                                                    (λ c p. enumerated w l (codes "Graphics.Element.Position") (codes "middle") refl tt),
+                                                                                                    (λ c p. enumerated w l (codes "Graphics.Element.Position") (codes "middle") refl tt tt),
                                                                                                     (
-                                                                                                      (λ c p. enumerated w l (codes "Graphics.Element.Position") (codes "bottomRight") refl tt),
+                                                                                                      (λ c p. enumerated w l (codes "Graphics.Element.Position") (codes "bottomRight") refl tt tt),
                                                                                                       (
                                                                                                         safe_container 50,
                                                                                                         (

@@ -18,7 +18,7 @@ use Rattle.elm_meaning.specs.Comparisons.{equality, order}
 use Rattle.elm_meaning.specs.PairsVisited.{visited}
 use Rattle.elm_meaning.specs.Texts.{join, join_lists, is_list, begins_list, in_front, char_of, char_list, list_bytes, with_char, text_or_none, from_list, read_number, no_number}
 use Rattle.elm_meaning.specs.Layout.{Grid, laid_out, element_of, grids_of, with_grid, grid_of}
-use Rattle.typing_rules.specs.Unions.{parameters_in, union_named, AllAllowed, parts_of}
+use Rattle.typing_rules.specs.Unions.{parameters_in, union_named, AllAllowed, parts_of, RespectsAmong, arguments_for, constructors_in}
 use Rattle.typing_rules.specs.Library.{element, library_unions}
 use Rattle.typing_rules.specs.Worlds.{World, IsProper}
 use Rattle.typing_rules.specs.TermTypes.{ValueHas}
@@ -45,14 +45,14 @@ module _ (w : World) (l : HasLibrary w) where
 
   -- constructors without arguments, and those of Result
 
-  pub enumerated : (n k : List ℕ) → parts_of (library_unions ++ l.own) n NoGrounds k ≡ Some NoGrounds → AllAllowed (parameters_in (union_named n (library_unions ++ l.own))) NoGrounds → ValueHas w (named k) (Ground.Named n NoGrounds)
-  enumerated n k g a = (
+  pub enumerated : (n k : List ℕ) → parts_of (library_unions ++ l.own) n NoGrounds k ≡ Some NoGrounds → AllAllowed (parameters_in (union_named n (library_unions ++ l.own))) NoGrounds → RespectsAmong k (arguments_for (parameters_in (union_named n (library_unions ++ l.own))) NoGrounds) (constructors_in (union_named n (library_unions ++ l.own))) → ValueHas w (named k) (Ground.Named n NoGrounds)
+  enumerated n k g a r = (
     Ground.Named n NoGrounds,
     (
       n,
       NoGrounds,
       NoGrounds,
-      record { belongs = tt; allowed = subst (λ z. AllAllowed (parameters_in (union_named n z)) NoGrounds) (sym l.first) a; given = subst (λ z. parts_of z n NoGrounds k ≡ Some NoGrounds) (sym l.first) g },
+      record { belongs = tt; allowed = subst (λ z. AllAllowed (parameters_in (union_named n z)) NoGrounds) (sym l.first) a; respected = subst (λ z. RespectsAmong k (arguments_for (parameters_in (union_named n z)) NoGrounds) (constructors_in (union_named n z))) (sym l.first) r; given = subst (λ z. parts_of z n NoGrounds k ≡ Some NoGrounds) (sym l.first) g },
       refl,
       refl,
     ),
@@ -61,29 +61,29 @@ module _ (w : World) (l : HasLibrary w) where
   )
 
   pub truth_has : (b : Bool) → ValueHas w (truth b) bool
-  truth_has true = enumerated (codes "Basics.Bool") (codes "True") refl tt
-  truth_has false = enumerated (codes "Basics.Bool") (codes "False") refl tt
+  truth_has true = enumerated (codes "Basics.Bool") (codes "True") refl tt tt
+  truth_has false = enumerated (codes "Basics.Bool") (codes "False") refl tt tt
 
   abbrev order_type : Ground
   order_type = Ground.Named (codes "Basics.Order") NoGrounds
 
   pub less_has : ValueHas w (named (codes "LT")) order_type
-  less_has = enumerated (codes "Basics.Order") (codes "LT") refl tt
+  less_has = enumerated (codes "Basics.Order") (codes "LT") refl tt tt
 
   pub same_has : ValueHas w (named (codes "EQ")) order_type
-  same_has = enumerated (codes "Basics.Order") (codes "EQ") refl tt
+  same_has = enumerated (codes "Basics.Order") (codes "EQ") refl tt tt
 
   pub greater_has : ValueHas w (named (codes "GT")) order_type
-  greater_has = enumerated (codes "Basics.Order") (codes "GT") refl tt
+  greater_has = enumerated (codes "Basics.Order") (codes "GT") refl tt tt
 
-  result_has : (k : List ℕ) (v : Value) (t : Ground) → parts_of (library_unions ++ l.own) (codes "Result.Result") (AndGround string (AndGround int NoGrounds)) k ≡ Some (AndGround t NoGrounds) → ValueHas w v t → (t ≡ string) ⊎ (t ≡ int) → ValueHas w (Made k (AndValue v NoValues)) (result_of string int)
-  result_has k v t g h d = (
+  result_has : (k : List ℕ) (v : Value) (t : Ground) → parts_of (library_unions ++ l.own) (codes "Result.Result") (AndGround string (AndGround int NoGrounds)) k ≡ Some (AndGround t NoGrounds) → RespectsAmong k (arguments_for (parameters_in (union_named (codes "Result.Result") (library_unions ++ l.own))) (AndGround string (AndGround int NoGrounds))) (constructors_in (union_named (codes "Result.Result") (library_unions ++ l.own))) → ValueHas w v t → (t ≡ string) ⊎ (t ≡ int) → ValueHas w (Made k (AndValue v NoValues)) (result_of string int)
+  result_has k v t g r h d = (
     Ground.Function t (result_of string int),
     (
       codes "Result.Result",
       AndGround string (AndGround int NoGrounds),
       AndGround t NoGrounds,
-      record { belongs = tt; allowed = subst (λ z. AllAllowed (parameters_in (union_named (codes "Result.Result") z)) (AndGround string (AndGround int NoGrounds))) (sym l.first) ((tt, tt), ((tt, tt), tt)); given = subst (λ z. parts_of z (codes "Result.Result") (AndGround string (AndGround int NoGrounds)) k ≡ Some (AndGround t NoGrounds)) (sym l.first) g },
+      record { belongs = tt; allowed = subst (λ z. AllAllowed (parameters_in (union_named (codes "Result.Result") z)) (AndGround string (AndGround int NoGrounds))) (sym l.first) ((tt, tt), ((tt, tt), tt)); respected = subst (λ z. RespectsAmong k (arguments_for (parameters_in (union_named (codes "Result.Result") z)) (AndGround string (AndGround int NoGrounds))) (constructors_in (union_named (codes "Result.Result") z))) (sym l.first) r; given = subst (λ z. parts_of z (codes "Result.Result") (AndGround string (AndGround int NoGrounds)) k ≡ Some (AndGround t NoGrounds)) (sym l.first) g },
       refl,
       refl,
     ),
@@ -188,10 +188,10 @@ module _ (w : World) (l : HasLibrary w) where
   from_list_fine v h = (let r = bytes_there v h in subst (λ z. GivesTyped w string (text_or_none z)) (sym r.1) refl)
 
   no_number_has : (bs : List ℕ) → ValueHas w (no_number bs) (result_of string int)
-  no_number_has bs = result_has (codes "Err") (Text (codes "could not convert string '" ++ bs ++ codes "' to an Int")) string refl refl (inl refl)
+  no_number_has bs = result_has (codes "Err") (Text (codes "could not convert string '" ++ bs ++ codes "' to an Int")) string refl ((tt, tt), tt) refl (inl refl)
 
   some_number_has : (z : ℤ) → ValueHas w (Made (codes "Ok") (AndValue (Int z) NoValues)) (result_of string int)
-  some_number_has z = result_has (codes "Ok") (Int z) int refl refl (inr refl)
+  some_number_has z = result_has (codes "Ok") (Int z) int refl ((tt, tt), tt) refl (inr refl)
 
   pub read_fine : (bs : List ℕ) (o : Option ℤ) → ValueHas w (read_number bs o) (result_of string int)
   read_fine bs None = no_number_has bs

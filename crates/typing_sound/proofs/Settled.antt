@@ -3,6 +3,7 @@
 use Rattle.std.proofs.Common.{◌≡◌, ℕ, Bool, true, false, Option, Some, None, List, [], ◌∷◌, ◌++◌, refl, sym, ap, ◌∙◌, subst}
 use Rattle.std.specs.Prelude.{codes, if◌then◌else◌}
 use Rattle.std.specs.Str.{bytes_eq}
+use mathlib.Core.Path.{fun_ext}
 use Rattle.elm_base.specs.declared.term.Literal.{Literal as TermLiteral}
 use Rattle.elm_base.specs.declared.term.Literal.TheVariants as literal
 use Rattle.elm_typing.specs.declared.flag.Flag.{Flag}
@@ -16,7 +17,7 @@ use Rattle.elm_typing.specs.Rows.{extended, newest, removed, behind}
 use Rattle.elm_typing.specs.Sorts.{Sort, Simple, Signal, IsAtMost, sort_of, IsWellSorted, AreSimple, HasSimpleFields}
 use Rattle.elm_typing.specs.Spelling.{int, all_simple}
 use Rattle.typing_rules.specs.WrittenTypes.{Written, Writtens, WrittenFields, Variable, Named as NamedType, Arrow, Tuple as TupleType, Fields as FieldsType, NoWrittens, AndWritten, NoWrittenFields, AndWrittenField, begins, flag_of, IsIntWhere, Allows, Choice, IsRecord, row_of, rest_at, instance_at, instances_at, fields_at, IsRecordWhere, Respects, AllRespect, FieldsRespect, IsInstance}
-use Rattle.typing_rules.specs.Unions.{Union, union_named, parameters_in, constructors_in, arguments_for, AllAllowed, types_at, parts_among, count_of, arrows, Makes, GivesWhere, ConstructorGives}
+use Rattle.typing_rules.specs.Unions.{Union, union_named, parameters_in, constructors_in, arguments_for, AllAllowed, types_at, parts_among, count_of, arrows, Makes, GivesWhere, ConstructorGives, EachRespects, RespectsAmong, EitherOf}
 use Rattle.typing_rules.specs.CorePatterns.{CorePattern, CorePatterns, NoCorePatterns, AndCorePattern, literal_type, LabelsFit, Fits, AllFit}
 use Rattle.typing_rules.specs.Worlds.{Bound}
 
@@ -349,12 +350,26 @@ module _ (c : ℕ → Sort) where
           ap Some (sym (types_settled d.1 a b k) ∙ ap (all_settled c) i)
       here false e f = f e
 
+  each_settled : (ws : List Written) (a b : Choice) → Agree a b → EachRespects a ws → EachRespects b ws
+  each_settled [] a b k h = tt
+  each_settled (w ∷ ws) a b k h = (subst (λ (f : Choice). Respects f w) (fun_ext k.at) (respects_settled w a h.0), each_settled ws a b k h.1)
+
+  among_settled : (name : List ℕ) (ks : List (List ℕ × List Written)) (a b : Choice) → Agree a b → RespectsAmong name a ks → RespectsAmong name b ks
+  among_settled name [] a b k h = tt
+  among_settled name (d ∷ ks) a b k h = here (bytes_eq d.0 name) h (among_settled name ks a b k)
+    where
+      here : (z : Bool) → EitherOf z (EachRespects a d.1) (RespectsAmong name a ks) → (RespectsAmong name a ks → RespectsAmong name b ks) → EitherOf z (EachRespects b d.1) (RespectsAmong name b ks)
+      here true r f = each_settled d.1 a b k r
+      here false r f = f r
+
   pub makes_settled : (us : List Union) (u : Option (List ℕ)) (k name : List ℕ) (ts ps : Grounds) → Makes us u k name ts ps → Makes us u k name (all_settled c ts) (all_settled c ps)
   makes_settled us u k name ts ps m =
       let xs = parameters_in (union_named name us) in
       record {
         belongs = m.belongs;
         allowed = all_allowed xs ts m.allowed;
+        respected = among_settled k (constructors_in (union_named name us)) (arguments_for xs ts) (arguments_for xs (all_settled c ts))
+            (record { at = arguments_settled xs ts }) m.respected;
         given = parts_settled k (constructors_in (union_named name us)) (arguments_for xs ts) (arguments_for xs (all_settled c ts)) ps
             (record { at = arguments_settled xs ts }) m.given;
       }

@@ -181,10 +181,10 @@ module _ (p : Setting) (s : Surroundings) where
       (subst (λ (z : List ℕ). parts_of w.unions z g.1 (codes "True") ≡ Some g.2) (sym m.belongs) m.given) g.5
 
   falsehood_has : CoreHas w s falsehood bool
-  falsehood_has = (proper_named (codes "Basics.Bool"), (codes "Basics.Bool", NoGrounds, NoGrounds, record { belongs = refl; allowed = tt; given = refl }, refl, refl))
+  falsehood_has = (proper_named (codes "Basics.Bool"), (codes "Basics.Bool", NoGrounds, NoGrounds, record { belongs = refl; allowed = tt; respected = tt; given = refl }, refl, refl))
 
   truth_has : CoreHas w s truth bool
-  truth_has = (proper_named (codes "Basics.Bool"), (codes "Basics.Bool", NoGrounds, NoGrounds, record { belongs = refl; allowed = tt; given = refl }, refl, refl))
+  truth_has = (proper_named (codes "Basics.Bool"), (codes "Basics.Bool", NoGrounds, NoGrounds, record { belongs = refl; allowed = tt; respected = tt; given = refl }, refl, refl))
 
   both_bools : (a b : Core) → SameTypes (CoreHas w s (If a b falsehood)) (OfTwoBools (CoreHas w s a) (CoreHas w s b))
   both_bools a b t = (
