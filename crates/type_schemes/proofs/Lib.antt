@@ -1,0 +1,5 @@
+pub mod Fitting
+pub mod Tables
+pub mod Shapes
+pub mod PartsCopied
+pub mod Whole
