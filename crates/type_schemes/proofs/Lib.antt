@@ -3,3 +3,4 @@ pub mod Tables
 pub mod Shapes
 pub mod PartsCopied
 pub mod Whole
+pub mod Examples
