@@ -1,5 +1,5 @@
 -- The table, filled note by note, and closed.
-use Rattle.std.proofs.Common.{◌≡◌, ℕ, suc, ◌+◌, ◌<◌, Bool, true, false, List, [], ◌∷◌, ◌++◌, ◌⊎◌, inl, inr, length, length-set, get_or, take, set, replicate, refl, sym, ◌∙◌, ap, subst, arith, add-one}
+use Rattle.std.proofs.Common.{◌≡◌, ℕ, zero, suc, ◌+◌, ◌<◌, ◌≤◌, Bool, true, false, List, [], ◌∷◌, ◌++◌, ◌⊎◌, inl, inr, length, length-set, get_or, take, set, replicate, refl, sym, ◌∙◌, ap, subst, arith, add-one}
 use Rattle.std.proofs.Math.Seq.{take-suc}
 use Rattle.std.proofs.lemmas.Bool.{false≢true}
 use native.Mathlib.Decide.{ℕ_discrete}
@@ -23,11 +23,11 @@ pub record IsFilled (nodes : List Node) (notes : List (ℕ × ℕ)) (table : Tab
   pub height : length table.rows ≡ length nodes
   pub long : (a : ℕ) → a < length nodes → length (row_of table a) ≡ length nodes
   pub inside : (a b : ℕ) → bit_of table a b ≡ true → (a < length nodes) × (b < length nodes)
-  pub notes : HasNotes nodes notes table
+  pub has : HasNotes nodes notes table
   pub sound : IsTrueOf nodes notes table
 
 replicate-long : (n : ℕ) → length (replicate n false) ≡ n
-replicate-long 0 = refl
+replicate-long zero = refl
 replicate-long (suc n) = ap suc (replicate-long n)
 
 pub filled-none : (nodes : List Node) (table : Table) (n : ℕ) → n ≡ length nodes → table.bits ≡ n → length table.rows ≡ n → table.rows ≡ replicate n (replicate n false) → IsFilled nodes [] table
@@ -38,7 +38,7 @@ filled-none nodes table n en width height none = record {
       ap (λ (rows : List (List Bool)). length (get_or rows a [])) none
       ∙ ap length (copies-at n (replicate n false) [] a (omega (arith, lt, en))) ∙ replicate-long n ∙ en;
   inside = λ a b h. absurd (false≢true (sym (no-bit table n n a b none) ∙ h));
-  notes = λ note m. absurd m;
+  has = λ note m. absurd m;
   sound = λ chosen s h m a b t. absurd (false≢true (sym (no-bit table n n a b none) ∙ t));
 }
 
@@ -65,8 +65,8 @@ filled-more nodes notes note old new a b ea eb la lb f s = record {
     | inl e ↦ (subst (λ (k : ℕ). k < length nodes) (sym e.0) la, subst (λ (k : ℕ). k < length nodes) (sym e.1) lb)
     | inr was ↦ f.inside i j was
   ];
-  notes = λ other m i j ei ej. elim (member-append other notes note m) as (λ _. bit_of new i j ≡ true) [
-    | inl k ↦ bit-kept old new a b i j s row_in bit_in (f.notes other k i j ei ej)
+  has = λ other m i j ei ej. elim (member-append other notes note m) as (λ _. bit_of new i j ≡ true) [
+    | inl k ↦ bit-kept old new a b i j s row_in bit_in (f.has other k i j ei ej)
     | inr same ↦ (let x : i ≡ a = links-meet nodes i a note.0 (subst (λ (p : ℕ × ℕ). LinksTo nodes i p.0) same ei.leads) ea.leads ei.last ea.last in
         let y : j ≡ b = links-meet nodes j b note.1 (subst (λ (p : ℕ × ℕ). LinksTo nodes j p.1) same ej.leads) eb.leads ej.last eb.last in
         ap (λ (k : ℕ). bit_of new k j) x ∙ ap (bit_of new a) y ∙ bit-same old new a b s row_in bit_in)
@@ -98,7 +98,7 @@ note-filled nodes notes i d old new a b lt leads last leads' last' la lb f width
 
 pub note-inside : (n : ℕ) (notes : List (ℕ × ℕ)) (k : ℕ) (d : ℕ × ℕ) → AreNotesBelow n notes → k < length notes → ((get_or notes k d).0 < n) × ((get_or notes k d).1 < n)
 note-inside n [] k d h lt = absurd (omega (arith, lt))
-note-inside n (x ∷ notes) 0 d h lt = (h.0, h.1)
+note-inside n (x ∷ notes) zero d h lt = (h.0, h.1)
 note-inside n (x ∷ notes) (suc k) d h lt = note-inside n notes k d h.2 (omega (arith, lt))
 
 pub closed-says : (nodes : List Node) (notes taken : List (ℕ × ℕ)) (filled closed : Table) → taken ≡ notes → IsFilled nodes taken filled → closed.bits ≡ filled.bits → length closed.rows ≡ length filled.rows →
@@ -107,7 +107,7 @@ closed-says nodes notes taken filled closed e f width height least =
     subst (λ (l : List (ℕ × ℕ)). IsClosure nodes l closed) e (record {
       width = width ∙ f.width;
       height = height ∙ f.height;
-      notes = λ note m a b ea eb. least.includes a b (f.notes note m a b ea eb);
+      has = λ note m a b ea eb. least.includes a b (f.has note m a b ea eb);
       transitive = least.transitive;
       sound = λ chosen s h m a b t.
           let sorts = λ (i : ℕ). sort_of chosen (s i) in
@@ -116,3 +116,9 @@ closed-says nodes notes taken filled closed e f width height least =
           (λ i j is. let l = f.inside i j is in sorts-bit (length nodes) sorts i j l.0 l.1 ∙ at_most-to (sorts i) (sorts j) (f.sound chosen s h m i j is))
           (sorts-transitive (length nodes) sorts) a b t);
     })
+
+pub taken-all : (xs : List (ℕ × ℕ)) (i : ℕ) → length xs ≤ i → take i xs ≡ xs
+taken-all [] zero le = refl
+taken-all [] (suc i) le = refl
+taken-all (x ∷ xs) zero le = absurd (omega (arith, le))
+taken-all (x ∷ xs) (suc i) le = ap (λ (l : List (ℕ × ℕ)). x ∷ l) (taken-all xs i (omega (arith, le)))

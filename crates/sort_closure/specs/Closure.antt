@@ -22,12 +22,12 @@ HasNotes nodes notes table =
 abbrev pub IsTrueOf : List Node → List (ℕ × ℕ) → Table → Type 0
 IsTrueOf nodes notes table =
     (chosen : ℕ → Sort) (s : Assignment) → Solves nodes s → Meets s chosen notes → (a b : ℕ) → IsTrue (bit_of table a b)
-        → IsAtMost (sort_of chosen (s a)) (sort_of chosen (s b))
+    → IsAtMost (sort_of chosen (s a)) (sort_of chosen (s b))
 
 -- the table says what follows from the notes
 pub record IsClosure (nodes : List Node) (notes : List (ℕ × ℕ)) (table : Table) : Type 0 where
   pub width : table.bits ≡ length nodes
   pub height : length table.rows ≡ length nodes
-  pub notes : HasNotes nodes notes table
+  pub has : HasNotes nodes notes table
   pub transitive : IsTransitive table
   pub sound : IsTrueOf nodes notes table

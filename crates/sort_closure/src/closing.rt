@@ -14,11 +14,7 @@ use type_terms::{Store, TermId};
 /// A table over the terms: the bit of a row says that its term's sort is at most that of the bit's term, in each solution
 /// of the store that meets these notes. Each note has the bit of the ends of its terms' links, and what follows from two
 /// bits has its bit too.
-pub fn closed(
-    alloc: Global,
-    store: &Store,
-    notes: &[(TermId, TermId)],
-) -> Result<BitRows, NoMemory>
+pub fn closed(alloc: Global, store: &Store, notes: &[(TermId, TermId)]) -> Result<BitRows, NoMemory>
     requires { AreNotesBelow (length (nodes_of store.now)) notes.now }
     ensures { IfOk result (IsClosure (nodes_of store.now) notes.now) }
 {
