@@ -2,3 +2,5 @@ pub mod Agreeing
 pub mod Growing
 pub mod Deciding
 pub mod Composing
+pub mod Fixing
+pub mod Going

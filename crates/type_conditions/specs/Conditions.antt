@@ -1,9 +1,10 @@
 -- Conditions on types, and what it is to satisfy them.
-use Rattle.std.specs.Prelude.{ℕ, List, [], ◌∷◌}
+use Rattle.std.specs.Prelude.{ℕ, List, [], ◌∷◌, ◌++◌, length}
 use Rattle.elm_typing.specs.Sorts.{Sort}
 use Rattle.type_terms.specs.declared.node.Node.{Node}
+use Rattle.type_terms.specs.declared.shape.Shape.{Shape}
 use Rattle.type_terms.specs.Solutions.{Assignment, Solves}
-use Rattle.type_terms.specs.Terms.{State, nodes_of, notes_of}
+use Rattle.type_terms.specs.Terms.{State, nodes_of, notes_of, with_term}
 use Rattle.type_sorts.specs.Sorts.{Meets}
 use Rattle.well_sorted.specs.Asking.{AreSorted}
 
@@ -33,3 +34,8 @@ IsSatisfiable asked = (chosen : ℕ → Sort) × (s : Assignment) × Satisfies a
 
 abbrev pub nothing_asked : Asked
 nothing_asked = record { states = record { nodes = []; notes = [] } ∷ []; proper = [] }
+
+-- a term of this shape more, whose type is to be well sorted
+abbrev pub with_made : Shape → Asked → Asked
+with_made shape asked =
+    record { states = with_term shape asked.states; proper = asked.proper ++ length (terms_in asked) ∷ [] }

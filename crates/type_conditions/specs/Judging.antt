@@ -7,7 +7,7 @@ use Rattle.elm_typing.specs.Sorts.{Sort, IsAtMost, IsWellSorted, sort_of}
 use Rattle.type_terms.specs.Solutions.{Assignment, fields_of}
 use Rattle.type_terms.specs.Terms.{State}
 use Rattle.type_unify.specs.declared.rows.Tail.{Tail}
-use Rattle.type_unify.specs.declared.rows.Tail.TheVariants.{Open}
+use Rattle.type_unify.specs.declared.rows.Tail.TheVariants.{Open, Rigid}
 use Rattle.type_unify.specs.Rests.{IsType}
 use Rattle.type_unify.specs.Steps.{IsTail, under}
 use Rattle.type_unify.specs.Taken.{Agree}
@@ -53,6 +53,16 @@ pub record Opens (old new : Asked) (tail : Tail) : Type 0 where
   pub is_tail : IsTail (terms_in new) tail
   pub complete : (chosen : ℕ → Sort) (s : Assignment) (row : Row) → Satisfies old chosen s → RowInOrder row
       → (r : Assignment) × Agree (length (terms_in old)) s r × Satisfies new chosen r × (under r tail ≡ row)
+
+-- the tail is an opaque rest, over which nothing is chosen
+pub record Fixes (old new : Asked) (number : ℕ) (tail : Tail) : Type 0 where
+  pub grows : Grows old new
+  pub tails : KeepsTails old new
+  pub place : ℕ
+  pub is_rigid : tail ≡ Rigid place number
+  pub is_tail : IsTail (terms_in new) tail
+  pub complete : (chosen : ℕ → Sort) (s : Assignment) → Satisfies old chosen s
+      → (r : Assignment) × Agree (length (terms_in old)) s r × Satisfies new chosen r
 
 -- a record of these fields over the row that the tail ends
 abbrev pub HasFields : List (List ℕ × ℕ) → Tail → Judgement

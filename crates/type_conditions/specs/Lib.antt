@@ -1,3 +1,4 @@
 pub mod Conditions
 pub mod Judging
 pub mod Deciding
+pub mod Marking

@@ -5,5 +5,5 @@
 mod conditions;
 mod decide;
 
-pub use conditions::Conditions;
+pub use conditions::{Conditions, ConditionsMark};
 pub use type_unify::Tail;

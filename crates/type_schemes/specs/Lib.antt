@@ -1,0 +1,3 @@
+pub mod Schemes
+pub mod Copies
+pub mod Examples
