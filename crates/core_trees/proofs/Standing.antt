@@ -1,7 +1,7 @@
 -- What the forms with parts in turn stand for, and which of them are lambdas.
-use Rattle.std.proofs.Common.{◌≡◌, ◌↔◌, IsTrue, Bool, true, false, ℕ, List, [], ◌∷◌, map, refl, sym, ap, ◌∙◌}
+use Rattle.std.proofs.Common.{◌≡◌, ◌↔◌, IsTrue, Bool, false, List, [], ◌∷◌, map, refl, sym, ap, ◌∙◌}
 use Rattle.typing_rules.specs.CorePatterns.{CorePattern}
-use Rattle.typing_rules.specs.Core.{Core, Call, Lambda}
+use Rattle.typing_rules.specs.Core.{Core, Call}
 use Rattle.plain_form.specs.PlainForm.{call, lambdas, listed}
 use Rattle.core_trees.specs.declared.pattern.PatternTree.{PatternTree}
 use Rattle.core_trees.specs.declared.pattern.PatternTree.TheVariants as p
