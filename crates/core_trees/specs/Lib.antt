@@ -1,0 +1,3 @@
+pub mod PatternReading
+pub mod Reading
+pub mod Functions
