@@ -1,5 +1,5 @@
 -- Each form is read, and what is read is of the form.
-use Rattle.std.proofs.Common.{◌≡◌, ◌==◌, ◌&&◌, if◌then◌else◌, ℕ, List, ◌≢◌, Option, Some, None, IfSome, IfNone, option_map, option_and_then, Bool, true, false, refl, sym, ap, ap₂, ◌∙◌, codes}
+use Rattle.std.proofs.Common.{◌≡◌, ◌==◌, ◌&&◌, if◌then◌else◌, ℕ, List, [], ◌∷◌, ◌≢◌, Option, Some, None, IfSome, IfNone, option_map, option_and_then, Bool, true, false, refl, sym, ap, ap₂, ◌∙◌, codes}
 use Rattle.std.specs.Str.{bytes_eq}
 use Rattle.std.proofs.lemmas.Slice.Eq.{bytes_eq-Decides}
 use Rattle.std.proofs.lemmas.Bool.{eqb-true, and_parts}
@@ -7,6 +7,7 @@ use Rattle.serde_json.specs.Data.{Data, null, boolean, number, string, array, ob
 use Rattle.serde_json.specs.Find.{as_str, as_array}
 use Rattle.serde_json.specs.View.{items_of}
 use Rattle.session_form.specs.Form.{sheet}
+use Rattle.session_form.specs.Laws.{OneContent}
 use Rattle.session_form.specs.Reader as spec
 use Rattle.session_form.specs.Reader.{parts_in}
 
@@ -133,3 +134,20 @@ module _ {S : Type 0} (seen : S → spec.Parts) where
       let read : spec.sheet_in d ≡ Some (cursor, (items_of events, items_of inputs)) = ap spec.sheet_in h ∙ sheet_read cursor events inputs in
       cc
   is_no_sheet (Some s) d e = tt
+
+-- ---- a sheet has one content
+
+items_same : (ds es : List Data) → items_of ds ≡ items_of es → ds ≡ es
+items_same [] [] h = refl
+items_same [] (e ∷ es) h = cc
+items_same (d ∷ ds) [] h = cc
+items_same (d ∷ ds) (e ∷ es) h =
+    let first : d ≡ e = cc in
+    let rest : items_of ds ≡ items_of es = cc in
+    ap₂ (λ x xs. x ∷ xs) first (items_same ds es rest)
+
+pub one_content : OneContent
+one_content cursor other events others inputs own h =
+    let read = sym (sheet_read cursor events inputs) ∙ ap spec.sheet_in h ∙ sheet_read other others own in
+    let same = some_is {A = spec.Parts} (cursor, (items_of events, items_of inputs)) (other, (items_of others, items_of own)) read in
+    (ap (λ (p : spec.Parts). p.0) same, items_same events others (ap (λ (p : spec.Parts). p.1.0) same), items_same inputs own (ap (λ (p : spec.Parts). p.1.1) same))

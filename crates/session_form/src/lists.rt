@@ -13,7 +13,11 @@ fn number_alone(items: &[Value]) -> Option<u64>
     let [first, rest @ ..] = items else {
         return None;
     };
-    if rest.is_empty() { first.as_u64() } else { None }
+    if rest.is_empty() {
+        first.as_u64()
+    } else {
+        None
+    }
 }
 
 /// The one text of a list.
@@ -23,7 +27,11 @@ fn text_alone(items: &[Value]) -> Option<&str>
     let [first, rest @ ..] = items else {
         return None;
     };
-    if rest.is_empty() { first.as_str() } else { None }
+    if rest.is_empty() {
+        first.as_str()
+    } else {
+        None
+    }
 }
 
 fn number_and_text(items: &[Value]) -> Option<(u64, &str)>

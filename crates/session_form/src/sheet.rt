@@ -10,6 +10,7 @@ use serde_json::Value;
 use std::collections::btree_map::Iter;
 
 /// What the keys of a session have, but for the format and the version, which are always the same.
+#[derive(Drop)]
 pub struct Sheet<'a> {
     pub cursor: u64,
     pub events: &'a [Value],
@@ -22,7 +23,11 @@ fn taken<'a>(key: &str, left: &mut Iter<'a, String, Value>) -> Option<&'a Value>
         (spec.taken key.now (members_view left.old)) result (members_view left.new) }
 {
     let (own, value) = left.next()?;
-    if own.as_str() == key { Some(value) } else { None }
+    if own.as_str() == key {
+        Some(value)
+    } else {
+        None
+    }
 }
 
 fn number_at(key: &str, left: &mut Iter<'_, String, Value>) -> Option<u64>
@@ -64,7 +69,11 @@ fn parts_in<'a>(left: &mut Iter<'a, String, Value>) -> Option<Sheet<'a>>
     let inputs = list_at("inputs", left)?;
     let version = number_at("version", left)?;
     if format == "reactor-session" && version == 1 && left.next().is_none() {
-        Some(Sheet { cursor, events, inputs })
+        Some(Sheet {
+            cursor,
+            events,
+            inputs,
+        })
     } else {
         None
     }
