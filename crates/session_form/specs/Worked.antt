@@ -1,7 +1,6 @@
 -- Forms beside near misses.
-use Rattle.std.specs.Prelude.{◌≡◌, ℕ, List, [], ◌∷◌, codes, Some, None}
-use Rattle.serde_json.specs.Data.{Data, number, unsigned, negative, string, array, object, item, no_items, Members, member, no_members}
-use Rattle.serde_json.specs.View.{items_of}
+use Rattle.std.specs.Prelude.{◌≡◌, ℕ, [], ◌∷◌, codes, Some, None}
+use Rattle.serde_json.specs.Data.{Data, number, unsigned, string, array, object, item, no_items, Members, member, no_members}
 use Rattle.session_form.specs.Form.{sheet, delivery, input, named}
 use Rattle.session_form.specs.Reader.{sheet_in, place_in}
 
@@ -22,7 +21,7 @@ own_format = string (codes "reactor-session")
 -- a sheet; version 2; another format; a key that is none of a session's; no version; a list and a text
 abbrev pub Sheets : Type 0
 Sheets =
-    (sheet_in (sheet 1 (input 0 (codes "()") ∷ []) (named (codes "Mouse.clicks") (codes "()") ∷ [])) ≡ sheet_in (click_with own_format (version 1 no_members)))
+    (sheet_in (click_with own_format (version 1 no_members)) ≡ Some (1, (item (input 0 (codes "()")) no_items, item (named (codes "Mouse.clicks") (codes "()")) no_items)))
     × (click_with own_format (version 1 no_members) ≡ sheet 1 (input 0 (codes "()") ∷ []) (named (codes "Mouse.clicks") (codes "()") ∷ []))
     × (sheet_in (click_with own_format (version 2 no_members)) ≡ None)
     × (sheet_in (click_with (string (codes "session")) (version 1 no_members)) ≡ None)
