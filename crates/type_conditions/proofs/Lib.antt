@@ -2,3 +2,4 @@ pub mod Agreeing
 pub mod Growing
 pub mod Deciding
 pub mod Composing
+pub mod Chains
