@@ -4,3 +4,4 @@ pub mod Deciding
 pub mod Composing
 pub mod Fixing
 pub mod Going
+pub mod Chains

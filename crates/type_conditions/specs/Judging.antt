@@ -17,6 +17,10 @@ use Rattle.type_conditions.specs.Conditions.{Asked, terms_in, Satisfies}
 abbrev pub Judgement : Type 1
 Judgement = (ℕ → Sort) → Assignment → Ground → Type 0
 
+-- the judgement gives a type
+abbrev pub HasOne : Judgement → (ℕ → Sort) → Assignment → Type 0
+HasOne P chosen s = (type : Ground) × P chosen s type
+
 -- well sorted, with the fields of its rows in the order of their labels
 pub record IsWell (chosen : ℕ → Sort) (type : Ground) : Type 0 where
   pub sorted : IsWellSorted chosen type
