@@ -20,11 +20,7 @@ use std::alloc::Global;
 const MAX_NUMBER: u64 = 999_999_999;
 
 /// The value of a literal.
-fn value_in(
-    alloc: Global,
-    written: &[u8],
-    port: &PortType,
-) -> Result<PortValue, Halt<BadSession>>
+fn value_in(alloc: Global, written: &[u8], port: &PortType) -> Result<PortValue, Halt<BadSession>>
     requires { IsTrue (is_port port.now) }
     ensures { Answers (λ value. IsLiteral port.now value written.now) result }
 {

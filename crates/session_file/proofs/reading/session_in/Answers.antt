@@ -29,4 +29,4 @@ returns-in_err-events c =
     c.in_err-events.ensures m a.1
     (subst (λ inputs. spec.EventsAre inputs (map view sheet.events.now) a.1) (sym c.deref.ensures.value)
     (events_of c.a_sheet_has_one_content.ensures (view c.args.value.now) sheet.cursor (map view sheet.events.now) (map view sheet.inputs.now) c.in-Some.ensures.found a.0 a.1 h
-        c.a_text_has_one_type.ensures c.in_ok-inputs.inputs.items c.in_ok-inputs.ensures.read.each)))
+    c.a_text_has_one_type.ensures c.in_ok-inputs.inputs.items c.in_ok-inputs.ensures.read.each)))
