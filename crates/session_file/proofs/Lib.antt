@@ -1,0 +1,4 @@
+pub mod Eaches
+pub mod Telling
+pub mod Unique
+pub mod Whole
