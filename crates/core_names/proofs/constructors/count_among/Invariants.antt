@@ -1,0 +1,10 @@
+use Rattle.std.proofs.Common.{◌≡◌, length}
+use Rattle.core_names.specs.Tables as spec
+use Rattle.core_names.proofs.constructors.count_among.Given as goal
+
+-- the first of what is left is the first of all
+abbrev pub invariant-loop-left : goal.invariant-loop-left
+invariant-loop-left l = spec.count_among l.name l.left ≡ spec.count_among l.name l.constructors
+
+abbrev pub decreases-loop-left : goal.decreases-loop-left
+decreases-loop-left l = length l.left

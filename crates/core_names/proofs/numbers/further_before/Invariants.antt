@@ -1,0 +1,10 @@
+use Rattle.std.proofs.Common.{◌≡◌, ◌+◌, length}
+use Rattle.plain_form.specs.Numbering.{own_before}
+use Rattle.core_names.proofs.numbers.further_before.Given as goal
+
+-- those so far and those that are left are all
+abbrev pub invariant-loop-left : goal.invariant-loop-left
+invariant-loop-left l = l.count + own_before l.at l.left ≡ own_before l.at l.own
+
+abbrev pub decreases-loop-left : goal.decreases-loop-left
+decreases-loop-left l = length l.left

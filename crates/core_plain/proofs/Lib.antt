@@ -1,0 +1,5 @@
+pub mod Further
+pub mod Grouping
+pub mod Apart
+pub mod Forms
+pub mod Closing

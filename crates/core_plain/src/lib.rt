@@ -1,0 +1,12 @@
+//! The plain form of a definition, as a tree of the code.
+#![tactic(auto)]
+
+mod blocks;
+mod definitions;
+mod members;
+mod names;
+mod patterns;
+mod walk;
+mod whole;
+
+pub use whole::plain_definition;
