@@ -7,7 +7,8 @@ use Rattle.typing_rules.specs.Core.{Core, CoreGroup, Local, Top, Input, Literal,
 use Rattle.plain_form.specs.Naming.{Naming}
 use Rattle.plain_form.specs.PlainForm.{Defined, Annotated, Named, Apart, Other, annotation_of, stands_at, defined_at, function_before, functions_of, value_before, group_before, groups_before, no_core}
 use Rattle.core_trees.specs.Reading.{Function, Group, functions, groups_before as groups_as}
-use Rattle.core_plain.specs.Members.{Member, AFunction, AValue, NoMember, member_from, member_at, in_front, functions_in, group_from, alone, group_in, added, placed}
+use Rattle.core_parts.specs.Members.{Member, AFunction, AValue, NoMember, member_from, member_at, in_front, functions_in, group_from, alone, group_in, added, placed}
+use Rattle.core_parts.proofs.Looking.{drop_item}
 
 -- a function of the plain form in front of others
 abbrev front : Member → Option CoreGroup → Option CoreGroup
@@ -142,15 +143,6 @@ append_none : {A : Type 0} (xs : List A) → xs ++ [] ≡ xs
 append_none [] = refl
 append_none (x ∷ xs) = ap (λ l. x ∷ l) (append_none xs)
 
-drop_next : {A : Type 0} (i : ℕ) (xs : List A) (x : A) → i < length xs → x ≡ get_or xs i x → drop i xs ≡ x ∷ drop (suc i) xs
-drop_next zero [] x h is = absurd (omega (arith, h))
-drop_next zero (y ∷ xs) x h is = ap (λ z. z ∷ xs) (sym is)
-drop_next (suc i) [] x h is = absurd (omega (arith, h))
-drop_next (suc i) (y ∷ xs) x h is = drop_next i xs x (omega (arith, h)) is
-
-drop_item : {A : Type 0} (i : ℕ) (xs : List A) (x : A) → i < length xs → x ≡ get_or xs i x → drop i xs ≡ x ∷ drop (i + 1) xs
-drop_item i xs x h is = drop_next i xs x h is ∙ ap (λ (k : ℕ). x ∷ drop k xs) (sym (add-one i))
-
 drop_all : {A : Type 0} (i : ℕ) (xs : List A) → length xs ≤ i → drop i xs ≡ []
 drop_all zero [] h = refl
 drop_all (suc i) [] h = refl
@@ -225,20 +217,3 @@ groups_stop h n i gs ats all made lt is found here rest =
 pub groups_end : {A : Type 0} (h : A → List At) (n : Naming) (i : ℕ) (gs : List A) (all : List Defined) (made : List Group) → length gs ≤ i →
     ((rest : Core) → groups_before n (map h gs) all rest ≡ groups_as made (groups_before n (map h (drop i gs)) all rest)) → (rest : Core) → groups_as made rest ≡ groups_before n (map h gs) all rest
 groups_end h n i gs all made end here rest = sym (here rest ∙ ap (λ l. groups_as made (groups_before n (map h l) all rest)) (drop_all i gs end))
-
--- ---- annotations
-
-pub annotation_turn : {A : Type 0} (f : A → Defined) (xs : List A) (i : ℕ) (x : A) (name : List ℕ) (all : Option Written) → i < length xs → x ≡ get_or xs i x →
-    ((others : List Defined) → annotation_of name (f x ∷ others) ≡ annotation_of name others) → annotation_of name (map f (drop i xs)) ≡ all → annotation_of name (map f (drop (i + 1) xs)) ≡ all
-annotation_turn f xs i x name all lt is passes here =
-    sym (passes (map f (drop (i + 1) xs))) ∙ sym (ap (λ l. annotation_of name (map f l)) (drop_item i xs x lt is)) ∙ here
-
-get_next : {A : Type 0} (i : ℕ) (xs : List A) (d e : A) → i < length xs → get_or xs i d ≡ get_or xs i e
-get_next i [] d e h = absurd (omega (arith, h))
-get_next zero (x ∷ xs) d e h = refl
-get_next (suc i) (x ∷ xs) d e h = get_next i xs d e (omega (arith, h))
-
-pub get_again : {A : Type 0} (i : ℕ) (xs : List A) (d : A) → i < length xs → get_or xs i d ≡ get_or xs i (get_or xs i d)
-get_again i [] d h = absurd (omega (arith, h))
-get_again zero (x ∷ xs) d h = refl
-get_again (suc i) (x ∷ xs) d h = get_next i xs d (get_or xs i d) (omega (arith, h))

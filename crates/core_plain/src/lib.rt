@@ -1,11 +1,6 @@
 //! The plain form of a definition, as a tree of the code.
 #![tactic(auto)]
 
-mod blocks;
-mod definitions;
-mod members;
-mod names;
-mod patterns;
 mod walk;
 mod whole;
 

@@ -1,113 +1,23 @@
 //! The plain form of expressions.
 ghost use Rattle.std.specs.Prelude.{◌≡◌, map, IfOk, option_map};
-ghost use Rattle.plain_form.specs.PlainForm.{plain as wanted, plain_definition, operation as operated, use_of as used, plain_set, with_fields as in_front, groups_before};
-ghost use Rattle.typing_rules.specs.Core.{Core, Call, Native};
-ghost use Rattle.elm_base.specs.declared.native.TheConstants.{NEGATE};
+ghost use Rattle.plain_form.specs.PlainForm.{plain as wanted, plain_definition, plain_set, groups_before};
+ghost use Rattle.typing_rules.specs.Core.{Core};
 ghost use Rattle.core_trees.specs.Reading.{core_of, group_of, function_of, groups_before as groups_as};
 ghost use Rattle.core_names.specs.Binding.{names_of};
+ghost use Rattle.core_parts.specs.Making as parts;
+ghost use Rattle.core_parts.specs.Members as members;
 ghost use Rattle.core_plain.specs.Making as spec;
-ghost use Rattle.core_plain.specs.Members as members;
 
-use crate::blocks::{Block, group_alone, let_tree};
-use crate::definitions::member_with;
-use crate::members::{Member, stands_at};
-use crate::names::{falsehood, field_function, nothing, truth, tuple_maker, use_of};
-use crate::patterns::{plain_pattern, plain_patterns};
 use alias_expansion::Room;
 use core_names::Numbered;
+use core_parts::{
+    Block, Member, group_alone, leaf, let_tree, member_with, negated, nothing, operation,
+    plain_pattern, plain_patterns, stands_at, with_fields,
+};
 use core_trees::{CoreTree, LetFunction, LetGroup, PatternTree, lambdas};
-use elm_base::{At, Declaration, Expr, Literal, Name, NoMemory, Operator, Pattern, Set, native};
+use elm_base::{At, Declaration, Expr, Name, NoMemory, Pattern, Set};
 use sqlite_items::{Boxed, Items};
 use std::alloc::Global;
-
-/// What an operator makes of its sides: `&&` and `||` are `if`, any other is called.
-fn operation(
-    alloc: Global,
-    operator: &Operator,
-    left: Boxed<CoreTree>,
-    right: Boxed<CoreTree>,
-    of: &Numbered<'_>,
-) -> Result<CoreTree, NoMemory>
-    ensures { IfOk result (λ made. core_of made ≡ operated operator.now.name
-        (used (names_of of.now) operator.now.at ((names_of of.now).thing operator.now.at))
-        (core_of left) (core_of right)) }
-{
-    if operator.name.is(b"&&") {
-        let no = Boxed::new(alloc, falsehood(alloc)?)?;
-        return Ok(CoreTree::If {
-            condition: left,
-            yes: right,
-            no,
-        });
-    }
-    if operator.name.is(b"||") {
-        let yes = Boxed::new(alloc, truth(alloc)?)?;
-        return Ok(CoreTree::If {
-            condition: left,
-            yes,
-            no: right,
-        });
-    }
-    called(alloc, use_of(alloc, operator.at, of)?, left, right)
-}
-
-fn called(
-    alloc: Global,
-    function: CoreTree,
-    left: Boxed<CoreTree>,
-    right: Boxed<CoreTree>,
-) -> Result<CoreTree, NoMemory>
-    ensures { IfOk result (λ made. core_of made
-        ≡ Call (Call (core_of function) (core_of left)) (core_of right)) }
-{
-    let function = Boxed::new(alloc, function)?;
-    let mut arguments = Items::new(alloc);
-    arguments.push(left.into_inner())?;
-    arguments.push(right.into_inner())?;
-    Ok(CoreTree::Call {
-        function,
-        arguments,
-    })
-}
-
-fn negated(alloc: Global, inner: CoreTree) -> Result<CoreTree, NoMemory>
-    ensures { IfOk result (λ made. core_of made ≡ Call (Native NEGATE) (core_of inner)) }
-{
-    let function = Boxed::new(
-        alloc,
-        CoreTree::Native {
-            number: native::NEGATE,
-        },
-    )?;
-    let mut arguments = Items::new(alloc);
-    arguments.push(inner)?;
-    Ok(CoreTree::Call {
-        function,
-        arguments,
-    })
-}
-
-/// Fields in front of a record, if there are any.
-fn with_fields(
-    alloc: Global,
-    from: CoreTree,
-    fields: Items<(Name, CoreTree)>,
-) -> Result<CoreTree, NoMemory>
-    ensures { IfOk result (λ made. core_of made
-        ≡ in_front (core_of from) (map spec.field_of fields)) }
-{
-    if fields.is_empty() {
-        return Ok(from);
-    }
-    let from = Boxed::new(alloc, from)?;
-    Ok(CoreTree::Extend { from, fields })
-}
-
-fn literal(value: Literal) -> Result<CoreTree, NoMemory>
-    ensures { IfOk result (λ made. core_of made ≡ spec.literal_of value) }
-{
-    Ok(CoreTree::Literal { value })
-}
 
 /// The plain form of an expression.
 #[cycle(plain)]
@@ -121,16 +31,46 @@ pub fn plain(
 {
     match tree {
         Expr::Chain { .. } => nothing(alloc),
-        Expr::Int { value, .. } => literal(Literal::Int(*value)),
-        Expr::Char { value, .. } => literal(Literal::Char(*value)),
-        Expr::Text { value, .. } => literal(Literal::Text(value.copy(alloc)?)),
-        Expr::Unit { .. } => literal(Literal::Unit),
-        Expr::Variable { at, .. } => use_of(alloc, *at, of),
-        Expr::Constructor { at, .. } => use_of(alloc, *at, of),
-        Expr::OperatorName { at, .. } => use_of(alloc, *at, of),
-        Expr::FieldFunction { at, label } => field_function(alloc, *at, label, of),
-        Expr::TupleMaker { at, parts } => tuple_maker(alloc, *at, *parts, of),
+        Expr::Int { .. } => leaf(alloc, tree, of),
+        Expr::Char { .. } => leaf(alloc, tree, of),
+        Expr::Text { .. } => leaf(alloc, tree, of),
+        Expr::Unit { .. } => leaf(alloc, tree, of),
+        Expr::Variable { .. } => leaf(alloc, tree, of),
+        Expr::Constructor { .. } => leaf(alloc, tree, of),
+        Expr::OperatorName { .. } => leaf(alloc, tree, of),
+        Expr::FieldFunction { .. } => leaf(alloc, tree, of),
+        Expr::TupleMaker { .. } => leaf(alloc, tree, of),
         Expr::Brackets { inner, .. } => plain(alloc, inner.get(), of, room),
+        Expr::Binary { .. } => applied(alloc, tree, of, room),
+        Expr::Negate { .. } => applied(alloc, tree, of, room),
+        Expr::Call { .. } => applied(alloc, tree, of, room),
+        Expr::Access { .. } => applied(alloc, tree, of, room),
+        Expr::Tuple { .. } => applied(alloc, tree, of, room),
+        Expr::List { .. } => applied(alloc, tree, of, room),
+        Expr::Lambda { .. } => applied(alloc, tree, of, room),
+        Expr::If { .. } => branching(alloc, tree, of, room),
+        Expr::Guards { .. } => branching(alloc, tree, of, room),
+        Expr::Case { .. } => branching(alloc, tree, of, room),
+        Expr::Range { .. } => branching(alloc, tree, of, room),
+        Expr::Let { .. } => branching(alloc, tree, of, room),
+        Expr::Fields { .. } => record(alloc, tree, of, room),
+        Expr::Extend { .. } => record(alloc, tree, of, room),
+        Expr::Update { .. } => record(alloc, tree, of, room),
+        Expr::Remove { .. } => record(alloc, tree, of, room),
+    }
+}
+
+/// Operators, calls, fields, tuples, lists and lambdas. Another form gives what no resolved tree has.
+#[cycle(plain)]
+fn applied(
+    alloc: Global,
+    tree: &Expr,
+    of: &Numbered<'_>,
+    room: &mut Room,
+) -> Result<CoreTree, NoMemory>
+    ensures { IfOk result (λ made. core_of made ≡ spec.applied_of (names_of of.now) tree.now) }
+{
+    match tree {
         Expr::Binary {
             operator,
             left,
@@ -175,15 +115,7 @@ pub fn plain(
             let body = plain(alloc, body.get(), of, room)?;
             lambdas(alloc, patterns, body)
         }
-        Expr::If { .. } => branching(alloc, tree, of, room),
-        Expr::Guards { .. } => branching(alloc, tree, of, room),
-        Expr::Case { .. } => branching(alloc, tree, of, room),
-        Expr::Range { .. } => branching(alloc, tree, of, room),
-        Expr::Let { .. } => branching(alloc, tree, of, room),
-        Expr::Fields { .. } => record(alloc, tree, of, room),
-        Expr::Extend { .. } => record(alloc, tree, of, room),
-        Expr::Update { .. } => record(alloc, tree, of, room),
-        Expr::Remove { .. } => record(alloc, tree, of, room),
+        _ => nothing(alloc),
     }
 }
 
@@ -316,7 +248,7 @@ fn sets(
     of: &Numbered<'_>,
     room: &mut Room,
 ) -> Result<Items<(Name, CoreTree)>, NoMemory>
-    ensures { IfOk result (λ made. map spec.field_of made
+    ensures { IfOk result (λ made. map parts.field_of made
         ≡ map (plain_set (names_of of.now)) sets.now) }
 {
     let mut made = Items::new(alloc);

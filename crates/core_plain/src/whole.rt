@@ -6,10 +6,10 @@ ghost use Rattle.core_trees.specs.Reading.{core_of};
 ghost use Rattle.core_names.specs.Tables.{naming, tables_of};
 ghost use Rattle.core_plain.specs.Whole.{definition_of};
 
-use crate::patterns::plain_patterns;
 use crate::walk::plain;
 use alias_expansion::Room;
 use core_names::{Names, Numbered, binders_in};
+use core_parts::plain_patterns;
 use core_trees::{CoreTree, lambdas};
 use elm_base::{Expr, NoMemory, Pattern};
 use std::alloc::Global;

@@ -1,22 +1,15 @@
 //! Projects as texts, and the plain forms of what they define.
-use crate::shown::put_core;
-use alias_expansion::{Room, plain_aliases};
-use core_names::Names;
-use core_plain::plain_definition;
-use elm_base::{
-    Declaration, Expr, Halt, Module, NoMemory, Pattern, Project, ProjectFault, Resolved,
-};
+use crate::shown::{put_core, put_type};
+use core_definitions::{CoreDefinition, definitions};
+use elm_base::{Project, Resolved};
 use elm_library::{Source, read};
 use layout_lexer::tokens;
-use module_names::defaults_for;
 use module_parser::{fix, module};
 use module_scope::resolve;
 use sqlite_items::Items;
-use std::alloc::Global;
+use std::alloc::{AllocError, Global};
 use std::test::Fail;
-use top_names::top_names;
 use type_decls::declare;
-use type_names::{TypeScope, known_types};
 
 /// The part of the library that each project of the rows has.
 const LIBRARY: [Source; 4] = [
@@ -30,7 +23,7 @@ const LIBRARY: [Source; 4] = [
     },
     Source {
         name: "Signal",
-        text: "opaque Signal a\nmodule Signal where\n",
+        text: "device clicks : Signal ()\nopaque Signal a\nmodule Signal where\n",
     },
     Source {
         name: "List",
@@ -47,80 +40,46 @@ fn resolved(alloc: Global, text: &str) -> Result<Resolved, Fail> {
     Ok(whole)
 }
 
-/// The parameters and the body of the module's definition of this name.
-fn definition_in<'a>(home: &'a Module, name: &[u8]) -> Option<(&'a [Pattern], &'a Expr)> {
-    for declaration in home.declarations.as_slice() {
-        if let Declaration::Definition {
-            name: own,
-            patterns,
-            body,
-            ..
-        } = declaration
-        {
-            if own.bytes() == name {
-                return Some((patterns.as_slice(), body));
-            }
-        }
+fn put_definition(text: &mut String, definition: &CoreDefinition) -> Result<(), AllocError> {
+    put_core(text, &definition.body)?;
+    if let Some(written) = &definition.annotation {
+        text.push_str(" : ")?;
+        put_type(text, written)?;
     }
-    None
-}
-
-fn put_definition(
-    alloc: Global,
-    whole: &Resolved,
-    home: &Module,
-    text: &mut String,
-) -> Result<(), Halt<ProjectFault>> {
-    let decls = declare(alloc, whole)?;
-    let modules = whole.project.modules.as_slice();
-    let types = known_types(alloc, modules)?;
-    let aliases = plain_aliases(alloc, types.as_slice(), modules)?;
-    let defaults = defaults_for(alloc, home.name.bytes())?;
-    let tops = top_names(alloc, whole)?;
-    let names = Names {
-        module: home.name.bytes(),
-        meanings: whole.meanings.as_slice(),
-        groups: whole.groups.as_slice(),
-        tops: tops.as_slice(),
-        unions: decls.unions.as_slice(),
-        aliases: aliases.as_slice(),
-        scope: TypeScope {
-            types: types.as_slice(),
-            name: &home.name,
-            defaults: defaults.as_slice(),
-            imports: home.imports.as_slice(),
-        },
-    };
-    put_plain(alloc, &names, home, text)?;
     Ok(())
 }
 
-fn put_plain(
-    alloc: Global,
-    names: &Names<'_>,
-    home: &Module,
-    text: &mut String,
-) -> Result<(), NoMemory> {
-    let Some((parameters, body)) = definition_in(home, b"f") else {
-        return Ok(());
-    };
-    let mut room = Room::new();
-    let tree = plain_definition(alloc, names, parameters, body, &mut room)?;
-    put_core(text, &tree)?;
+fn put_group(text: &mut String, group: &[CoreDefinition]) -> Result<(), AllocError> {
+    for definition in group {
+        text.push_str(" ")?;
+        put_definition(text, definition)?;
+    }
+    text.push_str(";")
+}
+
+/// How many groups of one definition the library has.
+const LIBRARY_GROUPS: usize = 3;
+
+fn put_groups(text: &mut String, groups: &[Items<CoreDefinition>]) -> Result<(), AllocError> {
+    let mut place: usize = 0;
+    for group in groups {
+        if place >= LIBRARY_GROUPS {
+            put_group(text, group.as_slice())?;
+        }
+        place += 1;
+    }
     Ok(())
 }
 
-/// A module's text, and the plain form of its definition of `f`.
+/// A module's text, and the definitions of its groups in their plain form, in order.
 pub type Row = (&'static str, &'static str);
 
-/// Appends the plain form of `f` of this module.
+/// Appends the definitions of this module, group by group.
 pub fn put_form(alloc: Global, given: &str, text: &mut String) -> Result<(), Fail> {
     let whole = resolved(alloc, given)?;
-    for home in whole.project.modules.as_slice() {
-        if home.name.is(b"Main") {
-            put_definition(alloc, &whole, home, text)?;
-        }
-    }
+    let decls = declare(alloc, &whole)?;
+    let groups = definitions(alloc, &whole, &decls)?;
+    put_groups(text, groups.as_slice())?;
     text.push_str("\n")?;
     Ok(())
 }

@@ -24,7 +24,7 @@ fn put_literal(text: &mut String, value: &Literal) -> Result<(), AllocError> {
 }
 
 #[cycle(types)]
-fn put_type(text: &mut String, tree: &TypeTree) -> Result<(), AllocError> {
+pub fn put_type(text: &mut String, tree: &TypeTree) -> Result<(), AllocError> {
     match tree {
         TypeTree::Variable { name, .. } => put_name(text, name),
         TypeTree::Named {

@@ -2,10 +2,11 @@ use Rattle.std.proofs.Common.{◌≡◌, ◌∙◌, IfOk, map, option_map, sym, 
 use Rattle.core_names.specs.Binding.{names_of}
 use Rattle.plain_form.specs.PlainForm.{plain_definition}
 use Rattle.core_trees.specs.Reading.{core_of, group_of}
-use Rattle.core_plain.specs.Members as members
+use Rattle.core_parts.specs.Members as members
 use Rattle.core_plain.proofs.Forms.{case_made, case_same}
-use Rattle.core_plain.proofs.Grouping.{met, passed, groups_stop, groups_turn, groups_end, get_again}
-use Rattle.core_plain.proofs.Further.{map_behind}
+use Rattle.core_plain.proofs.Grouping.{met, passed, groups_stop, groups_turn, groups_end}
+use Rattle.core_parts.proofs.Looking.{get_again}
+use Rattle.core_parts.proofs.Further.{map_behind}
 use Rattle.core_plain.proofs.walk.+plain.Goals as goal
 
 pub branching-returns-in_ok-branches-in-Case : goal.branching-returns-in_ok-branches-in-Case

@@ -4,15 +4,16 @@ use Rattle.core_trees.specs.Reading.{core_of}
 use Rattle.core_trees.specs.Reading.{function_of, group_of, groups_before as groups_as}
 use Rattle.typing_rules.specs.Core.{Core}
 use Rattle.plain_form.specs.PlainForm.{plain, plain_set, plain_definition, defined_at, groups_before}
+use Rattle.core_parts.specs.Making as parts
 use Rattle.core_plain.specs.Making as spec
-use Rattle.core_plain.specs.Members as members
+use Rattle.core_parts.specs.Members as members
 use Rattle.core_plain.proofs.walk.+plain.Given as goal
 
 abbrev pub invariant-all-loop-tree : goal.invariant-all-loop-tree
 invariant-all-loop-tree l = map core_of l.made ≡ map (plain (names_of l.of)) (take l.tree-index l.trees)
 
 abbrev pub invariant-sets-loop-set : goal.invariant-sets-loop-set
-invariant-sets-loop-set l = map spec.field_of l.made ≡ map (plain_set (names_of l.of)) (take l.set-index l.sets)
+invariant-sets-loop-set l = map parts.field_of l.made ≡ map (plain_set (names_of l.of)) (take l.set-index l.sets)
 
 abbrev pub invariant-guards-loop-condition : goal.invariant-guards-loop-condition
 invariant-guards-loop-condition l = map spec.guard_of l.made ≡ map (spec.guard_from (names_of l.of)) (take l.condition-index l.branches)

@@ -1,0 +1,10 @@
+use Rattle.std.proofs.Common.{◌≡◌, ◌++◌, map, length}
+use Rattle.core_definitions.specs.Definitions as spec
+use Rattle.core_definitions.proofs.pass.groups_from.Given as goal
+
+-- those so far, and those that are left, are all
+abbrev pub invariant-loop-left : goal.invariant-loop-left
+invariant-loop-left l = map (map spec.made_of) l.made ++ spec.groups_from (spec.whole_of l.whole) l.top l.left ≡ spec.groups_of (spec.whole_of l.whole)
+
+abbrev pub decreases-loop-left : goal.decreases-loop-left
+decreases-loop-left l = length l.left
