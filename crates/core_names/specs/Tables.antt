@@ -12,7 +12,6 @@ use Rattle.alias_expansion.specs.Expansion.{alias_called, plain}
 use Rattle.type_sense.specs.WrittenOf.{written_of}
 use Rattle.typing_rules.specs.WrittenTypes as w
 use Rattle.typing_rules.specs.WrittenTypes.{Written, NoWrittens}
-use Rattle.typing_rules.specs.Library.{from}
 use Rattle.typing_rules.specs.Core.{Core, Native, Top}
 use Rattle.plain_form.specs.PlainForm.{no_core}
 use Rattle.plain_form.specs.Naming.{Naming, Maker, thing_at, groups_at}
@@ -66,9 +65,6 @@ constructor_of unions «module» name =
 abbrev pub nothing : Written
 nothing = w.Tuple NoWrittens
 
-abbrev pub arrow : Written → Written → Written
-arrow a b = w.Arrow a b
-
 abbrev pub fields_layer : type.TypeTree-F TypeTree → List (Spot × TypeTree)
 fields_layer (type.Fields at None fields) = fields
 fields_layer _ = []
@@ -76,13 +72,9 @@ fields_layer _ = []
 abbrev pub closed_fields : TypeTree → List (Spot × TypeTree)
 closed_fields tree = fields_layer (out-TypeTree tree)
 
--- from the values of its fields, in order, to the record
+-- the record's type, and the labels of its fields in order
 abbrev pub maker_of : TypeTree → Maker
-maker_of tree =
-    record {
-      written = from (map (λ field. written_of field.1) (closed_fields tree)) (written_of tree);
-      labels = map (λ field. field.0.name) (closed_fields tree);
-    }
+maker_of tree = record { written = written_of tree; labels = map (λ field. field.0.name) (closed_fields tree) }
 
 abbrev pub maker_where : Option TypeTree → Maker
 maker_where None = record { written = nothing; labels = [] }

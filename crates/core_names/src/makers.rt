@@ -1,8 +1,7 @@
 //! The functions that aliases of closed records make, and written types.
-ghost use Rattle.std.specs.Prelude.{◌≡◌, ◌++◌, IfOk, OnOk, map, drop, option_map};
+ghost use Rattle.std.specs.Prelude.{◌≡◌, IfOk, map};
 ghost use Rattle.type_names.specs.Answers.{places_of};
 ghost use Rattle.type_sense.specs.WrittenOf.{written_of};
-ghost use Rattle.typing_rules.specs.Library.{from};
 ghost use Rattle.alias_expansion.specs.Expansion.{plain as plain_of};
 ghost use Rattle.plain_form.specs.PlainForm.{count};
 ghost use Rattle.core_names.specs.Tables as spec;
@@ -10,11 +9,11 @@ ghost use Rattle.core_names.specs.Tables as spec;
 use alias_expansion::{PlainAlias, Room, plain};
 use elm_base::{At, Name, NoMemory, Spot, TypeTree};
 use let_annotations::copy_type;
-use sqlite_items::{Boxed, Items};
+use sqlite_items::Items;
 use std::alloc::Global;
 use type_names::TypeScope;
 
-/// The function that an alias of a closed record makes: its type, and the labels in their order.
+/// The function that an alias of a closed record makes: the record's type, and the labels in their order.
 #[derive(Drop)]
 pub struct Made {
     pub written: TypeTree,
@@ -53,41 +52,11 @@ fn labels_of(alloc: Global, fields: &[(Spot, TypeTree)]) -> Result<Items<Name>, 
     Ok(labels)
 }
 
-fn arrow(alloc: Global, from: &TypeTree, to: TypeTree) -> Result<TypeTree, NoMemory>
-    ensures { IfOk result (λ tree. written_of tree
-        ≡ spec.arrow (written_of from.now) (written_of to)) }
-{
-    let from = Boxed::new(alloc, copy_type(alloc, from)?)?;
-    let to = Boxed::new(alloc, to)?;
-    let at = At { line: 0, column: 0 };
-    Ok(TypeTree::Arrow { at, from, to })
-}
-
-/// A function of these fields' values, one after the other.
-fn from_fields(
-    alloc: Global,
-    fields: &[(Spot, TypeTree)],
-    to: TypeTree,
-) -> Result<TypeTree, NoMemory>
-    ensures { IfOk result (λ tree. written_of tree
-        ≡ from (map (λ field. written_of field.1) fields.now) (written_of to)) }
-{
-    let mut whole = to;
-    let mut count = fields.len();
-    while count > 0 {
-        count -= 1;
-        whole = arrow(alloc, &fields[count].1, whole)?;
-    }
-    Ok(whole)
-}
-
 fn made_of(alloc: Global, tree: &TypeTree) -> Result<Made, NoMemory>
     ensures { IfOk result (λ made. spec.maker_in made ≡ spec.maker_of tree.now) }
 {
-    let fields = closed_fields(tree);
-    let labels = labels_of(alloc, fields)?;
-    let to = copy_type(alloc, tree)?;
-    let written = from_fields(alloc, fields, to)?;
+    let labels = labels_of(alloc, closed_fields(tree))?;
+    let written = copy_type(alloc, tree)?;
     Ok(Made { written, labels })
 }
 

@@ -1,6 +1,7 @@
 //! The plain form of names, and of what stands for a function by its form alone.
 ghost use Rattle.std.specs.Prelude.{◌≡◌, ◌+◌, ◌≤◌, map, take, drop, zero, IfOk};
-ghost use Rattle.typing_rules.specs.Core.{Lambda, Field, Local, Tuple};
+ghost use Rattle.typing_rules.specs.Core.{Lambda, Field, Fields, Held, Local, Tuple};
+ghost use Rattle.type_sense.specs.WrittenOf.{written_of};
 ghost use Rattle.typing_rules.specs.CorePatterns.{CorePattern};
 ghost use Rattle.plain_form.specs.PlainForm.{no_core, truth as true_core, falsehood as false_core, use_of as used, binders as binders_as, parameters as parameters_as, labelled as labelled_as, made_by as maker_of, cores, fields, count, lambdas as nested};
 ghost use Rattle.plain_form.specs.Naming.{Maker};
@@ -12,7 +13,7 @@ ghost use Rattle.core_parts.specs.Making as spec;
 
 use core_names::{Made, Numbered, TopThing};
 use core_trees::{CoreTree, PatternTree, lambdas};
-use elm_base::{At, Name, NoMemory, Thing};
+use elm_base::{At, Name, NoMemory, Thing, TypeTree};
 use sqlite_items::{Boxed, Items};
 use std::alloc::Global;
 
@@ -180,16 +181,30 @@ fn label_binders(
     binders(alloc, at, labels.len() as u32, of)
 }
 
-/// The function that makes a record of this alias, held to its written type.
+/// The function that makes a record of this alias, which is held to its written type.
 fn made_by(alloc: Global, at: At, made: Made, of: &Numbered<'_>) -> Result<CoreTree, NoMemory>
     ensures { IfOk result (λ tree. core_of tree ≡ maker_of (names_of of.now) at (maker_in made)) }
 {
     let Made { written, labels } = made;
-    let fields = labelled(alloc, at, labels.as_slice(), of)?;
     let patterns = label_binders(alloc, at, labels.as_slice(), of)?;
-    let function = lambdas(alloc, patterns, CoreTree::Fields { fields })?;
+    let body = record_of(alloc, at, written, labels.as_slice(), of)?;
+    lambdas(alloc, patterns, body)
+}
+
+/// A record whose fields have the values of further binders, held to a written type.
+fn record_of(
+    alloc: Global,
+    at: At,
+    written: TypeTree,
+    labels: &[Name],
+    of: &Numbered<'_>,
+) -> Result<CoreTree, NoMemory>
+    ensures { IfOk result (λ tree. core_of tree ≡ Held (written_of written)
+        (Fields (labelled_as (names_of of.now) at zero labels.now))) }
+{
+    let fields = labelled(alloc, at, labels, of)?;
+    let inner = Boxed::new(alloc, CoreTree::Fields { fields })?;
     let written = Boxed::new(alloc, written)?;
-    let inner = Boxed::new(alloc, function)?;
     Ok(CoreTree::Held { written, inner })
 }
 

@@ -5,8 +5,8 @@ use Rattle.elm_base.specs.declared.token.At.{At}
 use Rattle.elm_base.specs.declared.project.Thing.{Thing}
 use Rattle.elm_base.specs.declared.project.Thing.TheVariants as thing
 use Rattle.typing_rules.specs.Core.{Core, Native, Top}
-use Rattle.typing_rules.specs.WrittenTypes.{Written}
-use Rattle.typing_rules.specs.Library.{from, int_}
+use Rattle.typing_rules.specs.WrittenTypes.{Written, Fields, NoWrittenFields, AndWrittenField}
+use Rattle.typing_rules.specs.Library.{int_}
 use Rattle.plain_form.specs.Naming.{Naming, Maker}
 
 abbrev pub place : ℕ → ℕ → At
@@ -17,7 +17,11 @@ abbrev pub at : ℕ → At
 at column = record { line = 1; column = column }
 
 abbrev pub point : Maker
-point = record { written = from (int_ ∷ int_ ∷ []) int_; labels = codes "x" ∷ codes "y" ∷ [] }
+point =
+    record {
+      written = Fields None (AndWrittenField (codes "x") int_ (AndWrittenField (codes "y") int_ NoWrittenFields));
+      labels = codes "x" ∷ codes "y" ∷ [];
+    }
 
 -- A binder's number is its column. At column 7 stands what is bound at column 2, at column 8 a top value, at column 9
 -- Just, at column 10 the maker Point.

@@ -9,7 +9,7 @@ use Rattle.elm_base.specs.declared.tree.TypeTree.{TypeTree}
 use Rattle.typing_rules.specs.WrittenTypes.{Written}
 use Rattle.typing_rules.specs.Core.{Core}
 
--- a union's name with its module, and how many arguments its constructor takes
+-- the function that an alias of a record makes: the record's type, and its labels in written order
 pub record Maker : Type 0 where
   pub written : Written
   pub labels : List (List ℕ)

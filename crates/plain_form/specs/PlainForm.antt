@@ -110,9 +110,9 @@ abbrev pub count : List (List ℕ) → ℕ
 count [] = zero
 count (l ∷ ls) = suc (count ls)
 
--- \a b -> { x = a, y = b }, held to what is written
+-- \a b -> { x = a, y = b }, with the record held to what is written
 abbrev pub made_by : Naming → At → Maker → Core
-made_by n at m = Held m.written (lambdas (binders n at zero (count m.labels)) (Fields (labelled n at zero m.labels)))
+made_by n at m = lambdas (binders n at zero (count m.labels)) (Held m.written (Fields (labelled n at zero m.labels)))
 
 abbrev pub constructor_of : List ℕ → List ℕ × ℕ → Core
 constructor_of name c = Constructor c.0 name c.1

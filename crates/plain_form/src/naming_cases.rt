@@ -33,9 +33,9 @@ pub fn uses_are_what_they_stand_for()
     ensures constructor { use_of names (at 9) (names.thing (at 9))
         ≡ Constructor (codes "Maybe.Maybe") (codes "Just") 1 }
     ensures maker { use_of names (at 10) (names.thing (at 10))
-        ≡ Held point.written
-        (Lambda (CorePattern.Local 100)
+        ≡ Lambda (CorePattern.Local 100)
         (Lambda (CorePattern.Local 101)
+        (Held point.written
         (Fields
         (AndCoreField (codes "x") (Local 100) (AndCoreField (codes "y")
         (Local 101) NoCoreFields))))) }

@@ -95,7 +95,7 @@ const BLOCKS: [Row; 8] = [
 const NAMES: [Row; 4] = [
     (
         "type alias P = { x : Int, y : Int }\nf a = P a\n",
-        " \\(_0)(!((\\(_1)(_2)({}(x=_1)(y=_2))):(->(Basics.Int)(->(Basics.Int)(.x Basics.Int.y Basics.Int))))(_0));",
+        " \\(_0)(!(\\(_1)(_2)(({}(x=_1)(y=_2)):(.x Basics.Int.y Basics.Int)))(_0));",
     ),
     (
         "type T = A | B Int\nf = (A, B)\n",

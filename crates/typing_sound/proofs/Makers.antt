@@ -2,11 +2,12 @@
 use Rattle.std.proofs.Common.{◌≡◌, ℕ, zero, suc, ◌<◌, ◌==◌, Bool, true, false, None, List, [], ◌∷◌, refl, sym, ap, ap₂, ◌∙◌, subst, arith}
 use Rattle.std.proofs.lemmas.Bool.{eqb-true, eq-eqb}
 use Rattle.elm_base.specs.declared.token.At.{At}
-use Rattle.elm_typing.specs.Ground.{Ground, Grounds, NoGrounds, AndGround, Ends}
+use Rattle.elm_typing.specs.Ground.{Ground, Grounds, Row, Record, NoGrounds, AndGround, Ends}
+use Rattle.elm_typing.proofs.RowAlgebra.{extended-injective}
 use Rattle.typing_rules.specs.Unions.{arrows, count_of}
-use Rattle.typing_rules.specs.WrittenTypes.{Written, WrittenFields, Fields, NoWrittenFields, AndWrittenField, Choice, instance_at, fields_at, IsInstance}
+use Rattle.typing_rules.specs.WrittenTypes.{Written, WrittenFields, Fields, NoWrittenFields, AndWrittenField, Choice, instance_at, fields_at, Respects, FieldsRespect, IsInstance}
 use Rattle.typing_rules.specs.Worlds.{Surroundings, exactly, Either, with_name, Bound, with_bound, World, IsProper}
-use Rattle.typing_rules.specs.Core.{Core, Fields as RecordOf}
+use Rattle.typing_rules.specs.Core.{Core, Held, Fields as RecordOf}
 use Rattle.typing_rules.specs.CoreTypes.{CoreHas, AllCoresHave, CoreFieldsOver}
 use Rattle.plain_form.specs.Naming.{Naming, Maker}
 use Rattle.plain_form.specs.PlainForm.{lambdas, binders, parameters, labelled, count, made_by}
@@ -121,22 +122,63 @@ module _ (w : World) (n : Naming) (at : At) (differ : OwnNumbersDiffer n at) whe
       let ts = types_at choice others in
       (t, fields_at choice others (Ends None), (argument_proper w t (arrows ts r) p, has_its_type i t ts s), fields_have choice (suc i) others r (with_name (n.own at i) (exactly t) s) (result_proper w t (arrows ts r) p), refl)
 
-  record_has : (choice : Choice) (fs : WrittenFields) (s : Surroundings) → IsProper w (instance_at choice (takes_fields fs (Fields None fs))) → CoreHas w s (lambdas (binders n at 0 (count (labels_in fs))) (RecordOf (labelled n at 0 (labels_in fs)))) (instance_at choice (takes_fields fs (Fields None fs)))
-  record_has choice fs s p =
+  -- what a maker of these fields has, whose record is held to their type
+  abbrev record_body : WrittenFields → Core
+  record_body fs = Held (Fields None fs) (RecordOf (labelled n at 0 (labels_in fs)))
+
+  respects_result : (choice : Choice) (fs : WrittenFields) (r : Written) → Respects choice (takes_fields fs r) → Respects choice r
+  respects_result choice NoWrittenFields r h = h
+  respects_result choice (AndWrittenField label type others) r h = respects_result choice others r h.1
+
+  respects_function : (choice : Choice) (fs : WrittenFields) (r : Written) → FieldsRespect choice fs → Respects choice r → Respects choice (takes_fields fs r)
+  respects_function choice NoWrittenFields r f h = h
+  respects_function choice (AndWrittenField label type others) r f h = (f.0, respects_function choice others r f.1 h)
+
+  record_has : (choice : Choice) (fs : WrittenFields) (s : Surroundings) → Respects choice (takes_fields fs (Fields None fs)) → IsProper w (instance_at choice (takes_fields fs (Fields None fs))) → CoreHas w s (lambdas (binders n at 0 (count (labels_in fs))) (record_body fs)) (instance_at choice (takes_fields fs (Fields None fs)))
+  record_has choice fs s m p =
       let ts = types_at choice fs in
       let r = instance_at choice (Fields None fs) in
-      let body = RecordOf (labelled n at 0 (labels_in fs)) in
       let q = subst (IsProper w) (instance_of choice fs (Fields None fs)) p in
-      let h = function_has 0 ts r body s q (body_proper ts r q, (fields_at choice fs (Ends None), refl, fields_have choice 0 fs r s q)) in
-      subst (λ (k : ℕ). CoreHas w s (lambdas (binders n at 0 k) body) (instance_at choice (takes_fields fs (Fields None fs)))) (as_many choice fs)
-      (subst (CoreHas w s (lambdas (binders n at 0 (count_of ts)) body)) (sym (instance_of choice fs (Fields None fs))) h)
+      let proper = body_proper ts r q in
+      let inner : CoreHas w (with_own 0 ts s) (RecordOf (labelled n at 0 (labels_in fs))) r = (proper, (fields_at choice fs (Ends None), refl, fields_have choice 0 fs r s q)) in
+      let instance : IsInstance (Fields None fs) r = (choice, respects_result choice fs (Fields None fs) m, refl) in
+      let h = function_has 0 ts r (record_body fs) s q (proper, (inner, instance)) in
+      subst (λ (k : ℕ). CoreHas w s (lambdas (binders n at 0 k) (record_body fs)) (instance_at choice (takes_fields fs (Fields None fs)))) (as_many choice fs)
+      (subst (CoreHas w s (lambdas (binders n at 0 (count_of ts)) (record_body fs))) (sym (instance_of choice fs (Fields None fs))) h)
 
-  -- what a maker with these labels and this written type has
-  held : (written : Written) (labels : List (List ℕ)) (fs : WrittenFields) (t : Ground) (s : Surroundings) → labels ≡ labels_in fs → written ≡ takes_fields fs (Fields None fs) → IsProper w t → IsInstance written t → CoreHas w s (lambdas (binders n at 0 (count labels)) (RecordOf (labelled n at 0 labels))) t
-  held written labels fs t s e f p h =
-      let same : t ≡ instance_at h.0 (takes_fields fs (Fields None fs)) = h.2 ∙ ap (instance_at h.0) f in
-      subst (λ (ls : List (List ℕ)). CoreHas w s (lambdas (binders n at 0 (count ls)) (RecordOf (labelled n at 0 ls))) t) (sym e)
-      (subst (CoreHas w s (lambdas (binders n at 0 (count (labels_in fs))) (RecordOf (labelled n at 0 (labels_in fs))))) (sym same) (record_has h.0 fs s (subst (IsProper w) same p)))
+  -- the parameters have the types of the record's fields
+  fields_only : (choice : Choice) (i : ℕ) (ts : Grounds) (fs : WrittenFields) (row : Row) (s : Surroundings) → count_of ts ≡ count (labels_in fs) →
+      CoreFieldsOver w (with_own i ts s) (labelled n at i (labels_in fs)) (Ends None) row → row ≡ fields_at choice fs (Ends None) → ts ≡ types_at choice fs
+  fields_only choice i NoGrounds NoWrittenFields row s k over is = refl
+  fields_only choice i NoGrounds (AndWrittenField label type others) row s k over is = absurd (omega (arith, k))
+  fields_only choice i (AndGround t ts) NoWrittenFields row s k over is = absurd (omega (arith, k))
+  fields_only choice i (AndGround t ts) (AndWrittenField label type others) row s k over is =
+      let both = extended-injective label over.0 (instance_at choice type) over.1 (fields_at choice others (Ends None)) (sym over.4 ∙ is) in
+      ap₂ AndGround (sym (has_no_other i t over.0 ts s over.2.1) ∙ both.0)
+      (fields_only choice (suc i) ts others over.1 (with_name (n.own at i) (exactly t) s) (omega (arith, k)) over.3 both.1)
 
-  pub alias_has : (m : Maker) (fs : WrittenFields) (t : Ground) (s : Surroundings) → MakesRecord m fs → IsProper w t → IsInstance m.written t → CoreHas w s (made_by n at m) t
-  alias_has m fs t s g p h = (p, (held m.written m.labels fs t s g.labels g.written p h, h))
+  row_is : (row row' : Row) → Record row ≡ Record row' → row ≡ row'
+  row_is row row' e = cc e
+
+  record_only : (fs : WrittenFields) (t : Ground) (s : Surroundings) → CoreHas w s (lambdas (binders n at 0 (count (labels_in fs))) (record_body fs)) t → IsInstance (takes_fields fs (Fields None fs)) t
+  record_only fs t s h =
+      let f = function_only 0 (count (labels_in fs)) t (record_body fs) s h in
+      let inner = f.4.1.0.1 in
+      let held = f.4.1.1 in
+      let choice = held.0 in
+      let same : f.0 ≡ types_at choice fs = fields_only choice 0 f.0 fs inner.0 s f.2 inner.2 (row_is inner.0 (fields_at choice fs (Ends None)) (sym inner.1 ∙ held.2)) in
+      (choice, respects_function choice fs (Fields None fs) held.1.1 held.1, f.3 ∙ ap₂ arrows same held.2 ∙ sym (instance_of choice fs (Fields None fs)))
+
+  abbrev maker_with : Written → List (List ℕ) → Core
+  maker_with written labels = lambdas (binders n at 0 (count labels)) (Held written (RecordOf (labelled n at 0 labels)))
+
+  maker_is : (m : Maker) (fs : WrittenFields) → MakesRecord m fs → made_by n at m ≡ maker_with (Fields None fs) (labels_in fs)
+  maker_is m fs g = ap₂ maker_with g.written g.labels
+
+  pub alias_has : (m : Maker) (fs : WrittenFields) (t : Ground) (s : Surroundings) → MakesRecord m fs → IsProper w t → IsInstance (takes_fields fs (Fields None fs)) t → CoreHas w s (made_by n at m) t
+  alias_has m fs t s g p h =
+      subst (λ e. CoreHas w s e t) (sym (maker_is m fs g))
+      (subst (CoreHas w s (maker_with (Fields None fs) (labels_in fs))) (sym h.2) (record_has h.0 fs s h.1 (subst (IsProper w) h.2 p)))
+
+  pub alias_only : (m : Maker) (fs : WrittenFields) (t : Ground) (s : Surroundings) → MakesRecord m fs → CoreHas w s (made_by n at m) t → IsInstance (takes_fields fs (Fields None fs)) t
+  alias_only m fs t s g h = record_only fs t s (subst (λ e. CoreHas w s e t) (maker_is m fs g) h)

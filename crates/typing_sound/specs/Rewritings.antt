@@ -68,4 +68,4 @@ labels_in (AndWrittenField label type others) = label ∷ labels_in others
 -- the maker of an alias of a record with these fields: it takes their values in written order and gives the record
 pub record MakesRecord (m : Maker) (fields : WrittenFields) : Type 0 where
   pub labels : m.labels ≡ labels_in fields
-  pub written : m.written ≡ takes_fields fields (Fields None fields)
+  pub written : m.written ≡ Fields None fields
