@@ -67,21 +67,24 @@ from_less n m (p ∷ ps) le h = (omega (arith, le, h.0), from_less n m ps le h.1
 
 -- what stands elsewhere isn't counted
 
-unlike : (b : Bool) (p q : ℕ) → (p == q) ≡ b → (p ≡ q → ⊥) → (if p == q then 1 else 0) ≡ 0
+abbrev one_if : Bool → ℕ
+one_if b = if b then 1 else 0
+
+unlike : (b : Bool) (p q : ℕ) → (p == q) ≡ b → (p ≡ q → ⊥) → one_if (p == q) ≡ 0
 unlike true p q e f = absurd (f (eqb-true p q e))
-unlike false p q e f = ap (λ (b : Bool). if b then 1 else 0) e
+unlike false p q e f = ap one_if e
 
 none_below : (p n : ℕ) (ps : List ℕ) → n ≤ p → AllBelow n ps → times p ps ≡ 0
 none_below p n [] le h = refl
 none_below p n (q ∷ ps) le h =
-    let here : (if q == p then 1 else 0) ≡ 0 = unlike (q == p) q p refl (λ e. omega (arith, le, h.0, e)) in
+    let here : one_if (q == p) ≡ 0 = unlike (q == p) q p refl (λ e. omega (arith, le, h.0, e)) in
     let rest = none_below p n ps le h.1 in
     omega (arith, here, rest)
 
 none_from : (p n : ℕ) (ps : List ℕ) → p < n → AllFrom n ps → times p ps ≡ 0
 none_from p n [] lt h = refl
 none_from p n (q ∷ ps) lt h =
-    let here : (if q == p then 1 else 0) ≡ 0 = unlike (q == p) q p refl (λ e. omega (arith, lt, h.0, e)) in
+    let here : one_if (q == p) ≡ 0 = unlike (q == p) q p refl (λ e. omega (arith, lt, h.0, e)) in
     let rest = none_from p n ps lt h.1 in
     omega (arith, here, rest)
 
@@ -267,11 +270,11 @@ closes a b new ps ts t at u place grown parts is f =
         let all : times p (places_of_all (f.added ++ t ∷ [])) ≡ times p (places_of_all f.added) + times p ps = ap (times p) named ∙ times_append p (places_of_all f.added) ps in
         let before : times p (ps ++ places_of_all f.added) ≡ times p ps + times p (places_of_all f.added) = times_append p ps (places_of_all f.added) in
         elim (low_or_high p (length b)) as (λ _. times p (at ∷ places_of_all (f.added ++ t ∷ [])) ≤ 1) [
-          | inl lt ↦ (let here : (if at == p then 1 else 0) ≡ 0 = unlike (at == p) at p refl (λ e. omega (arith, place, lt, e)) in omega (arith, here, all, before, f.once p))
+          | inl lt ↦ (let here : one_if (at == p) ≡ 0 = unlike (at == p) at p refl (λ e. omega (arith, place, lt, e)) in omega (arith, here, all, before, f.once p))
           | inr le ↦ (let none = none_below p (length b) (ps ++ places_of_all f.added) le f.below in omega (arith, one (at == p), none, all, before))
         ]
       where
-        one : (b : Bool) → (if b then 1 else 0) ≤ 1
+        one : (b : Bool) → one_if b ≤ 1
         one true = omega arith
         one false = omega arith
 

@@ -1,2 +1,4 @@
 pub mod Laying
 pub mod PatternForms
+pub mod Closing
+pub mod Outs

@@ -2,5 +2,7 @@
 #![tactic(auto)]
 
 mod patterns;
+mod terms;
+mod walk;
 
-pub use patterns::lower_pattern;
+pub use walk::push_tree;
