@@ -26,9 +26,10 @@ use Rattle.core_names.specs.declared.tops.TopName.{TopName}
 use Rattle.core_names.specs.Tables.{Tables, naming}
 use Rattle.core_trees.specs.Reading.{core_of, annotation_of}
 use Rattle.core_plain.specs.Whole.{definition_of}
-use Rattle.top_names.specs.Names.{named_layer, names_of, nowhere}
+use Rattle.top_names.specs.Names.{named_layer, names_of, name_in, nowhere}
 use Rattle.core_definitions.specs.Inputs.{Place, inputs_in, input_at}
 use Rattle.core_definitions.specs.declared.one.CoreDefinition.{CoreDefinition}
+use Rattle.core_definitions.specs.declared.one.RightSide.{RightSide}
 use Rattle.core_definitions.specs.declared.pass.Whole.{Whole}
 
 -- a project with its names resolved, its types, and what its definitions share: top-level names, and the places of inputs
@@ -119,50 +120,67 @@ module_named home [] = None
 module_named home (m ∷ ms) = if bytes_eq m.name home then Some m else module_named home ms
 
 -- what no resolved project has
-abbrev pub no_definition : ℕ → Definition
-no_definition top = record { top = top; annotation = None; body = no_core }
+abbrev pub nothing_defined : Option Written × Core
+nothing_defined = (None, no_core)
 
--- what a declaration of the module defines, with the number of its top value and that which it has as an input
-abbrev pub defined_by : Naming → Module → ℕ → ℕ → Declaration → Definition
-defined_by n m top input declaration =
-    record {
-      top = top;
-      annotation = annotation_in n m.declarations declaration;
-      body = right_side n input declaration;
-    }
+-- what a declaration of the module defines, with the number that it has as an input
+abbrev pub defined_by : Naming → Module → ℕ → Declaration → Option Written × Core
+defined_by n m input declaration = (annotation_in n m.declarations declaration, right_side n input declaration)
 
-abbrev pub defined_where : Project → Module → ℕ → At → Option Declaration → Definition
-defined_where p m top at None = no_definition top
-defined_where p m top at (Some declaration) = defined_by (naming (tables_in p m)) m top (input_at m.name at p.inputs) declaration
+abbrev pub defined_where : Project → Module → At → Option Declaration → Option Written × Core
+defined_where p m at None = nothing_defined
+defined_where p m at (Some declaration) = defined_by (naming (tables_in p m)) m (input_at m.name at p.inputs) declaration
 
-abbrev pub defined_in : Project → ℕ → At → Option Module → Definition
-defined_in p top at None = no_definition top
-defined_in p top at (Some m) = defined_where p m top at (declared_at at m.declarations)
+abbrev pub defined_in : Project → At → Option Module → Option Written × Core
+defined_in p at None = nothing_defined
+defined_in p at (Some m) = defined_where p m at (declared_at at m.declarations)
 
--- the definition at a place of the module of this name, whose number is `top`
-abbrev pub defined_at : Project → List ℕ → ℕ → At → Definition
-defined_at p home top at = defined_in p top at (module_named home p.modules)
+-- the annotation and the right side of the definition at a place of the module of this name
+abbrev pub defined_at : Project → List ℕ → At → Option Written × Core
+defined_at p home at = defined_in p at (module_named home p.modules)
 
 -- ---- groups: those of the top level, with the numbers of their definitions through all of them
 
-abbrev pub definitions_from : Project → List ℕ → ℕ → List At → List Definition
-definitions_from p home top [] = []
-definitions_from p home top (at ∷ ats) = defined_at p home top at ∷ definitions_from p home (suc top) ats
+-- a definition with its module, place and name
+pub record Placed : Type 0 where
+  pub home : List ℕ
+  pub at : At
+  pub name : List ℕ
+  pub definition : Definition
 
-abbrev pub groups_from : Project → ℕ → List Group → List (List Definition)
+abbrev pub placed_at : Project → List ℕ → ℕ → At → Placed
+placed_at p home top at =
+    record {
+      home = home;
+      at = at;
+      name = name_in p.modules home at;
+      definition = record { top = top; annotation = (defined_at p home at).0; body = (defined_at p home at).1 };
+    }
+
+abbrev pub definitions_from : Project → List ℕ → ℕ → List At → List Placed
+definitions_from p home top [] = []
+definitions_from p home top (at ∷ ats) = placed_at p home top at ∷ definitions_from p home (suc top) ats
+
+abbrev pub groups_from : Project → ℕ → List Group → List (List Placed)
 groups_from p top [] = []
 groups_from p top (group ∷ more) =
     if same_place group.block nowhere
     then definitions_from p group.«module» top group.members ∷ groups_from p (top + length group.members) more
     else groups_from p top more
 
-abbrev pub groups_of : Project → List (List Definition)
+abbrev pub groups_of : Project → List (List Placed)
 groups_of p = groups_from p 0 p.groups
 
 -- ---- the trees that are made
 
-abbrev pub made_of : CoreDefinition → Definition
-made_of made = record { top = made.top; annotation = annotation_of made.annotation; body = core_of made.body }
+abbrev pub right_of : RightSide → Option Written × Core
+right_of right = (annotation_of right.annotation, core_of right.body)
+
+abbrev pub definition_for : CoreDefinition → Definition
+definition_for made = record { top = made.top; annotation = annotation_of made.right.annotation; body = core_of made.right.body }
+
+abbrev pub made_of : CoreDefinition → Placed
+made_of made = record { home = made.«module»; at = made.at; name = made.name; definition = definition_for made }
 
 abbrev pub whole_of : Whole → Project
 whole_of whole =
@@ -191,7 +209,7 @@ project_of resolved decls aliases =
     }
 
 -- The groups of the project, where its aliases are written out.
-pub record AreGroups (resolved : Resolved) (decls : Decls) (groups : List (List Definition)) : Type 0 where
+pub record AreGroups (resolved : Resolved) (decls : Decls) (groups : List (List Placed)) : Type 0 where
   pub aliases : List PlainAlias
   pub written_out : AreWrittenOut (known_in resolved.project.modules) resolved.project.modules aliases
   pub are : groups ≡ groups_of (project_of resolved decls aliases)

@@ -7,5 +7,5 @@ mod one;
 mod pass;
 mod whole;
 
-pub use one::CoreDefinition;
+pub use one::{CoreDefinition, RightSide};
 pub use whole::definitions;

@@ -10,17 +10,26 @@ use core_names::{Binders, Names, Numbered};
 use core_parts::nothing;
 use core_plain::plain_definition;
 use core_trees::CoreTree;
-use elm_base::{Declaration, NoMemory, TypeTree};
+use elm_base::{At, Declaration, Name, NoMemory, TypeTree};
 use std::alloc::Global;
+
+/// What stands on the right side of a definition, in its plain form, and the type that it is annotated with, without aliases.
+#[derive(Drop)]
+pub struct RightSide {
+    pub annotation: Option<TypeTree>,
+    pub body: CoreTree,
+}
 
 /// A top-level definition in its plain form.
 #[derive(Drop)]
 pub struct CoreDefinition {
+    pub module: Name,
+    /// Where it stands in its module.
+    pub at: At,
+    pub name: Name,
     /// The number of its top value: its place among all, in the order of groups.
     pub top: u32,
-    /// The type that it is annotated with, without aliases.
-    pub annotation: Option<TypeTree>,
-    pub body: CoreTree,
+    pub right: RightSide,
 }
 
 /// The right side of the definition that this declaration is.

@@ -5,14 +5,15 @@ ghost use Rattle.core_definitions.specs.Definitions as spec;
 
 use crate::finding::{declared_at, module_named};
 use crate::inputs::{Place, input_at};
-use crate::one::{CoreDefinition, annotation_in, right_side};
+use crate::one::{CoreDefinition, RightSide, annotation_in, right_side};
 use alias_expansion::{PlainAlias, Room};
 use core_names::{Names, TopName, same_place};
 use core_parts::nothing;
-use elm_base::{At, Declaration, Group, Meaning, Module, NoMemory, UnionOf};
+use elm_base::{At, Declaration, Group, Meaning, Module, Name, NoMemory, UnionOf};
 use module_names::defaults_for;
 use sqlite_items::Items;
 use std::alloc::Global;
+use top_names::name_in;
 use type_names::{KnownType, TypeScope};
 
 /// A project with its names resolved, its types, and the tables that its definitions share.
@@ -31,53 +32,46 @@ pub struct Whole<'a> {
 }
 
 /// What no resolved project has.
-fn no_definition(alloc: Global, top: u32) -> Result<CoreDefinition, NoMemory>
-    ensures { IfOk result (λ made. spec.made_of made ≡ spec.no_definition top) }
+fn nothing_defined(alloc: Global) -> Result<RightSide, NoMemory>
+    ensures { IfOk result (λ made. spec.right_of made ≡ spec.nothing_defined) }
 {
     let body = nothing(alloc)?;
-    Ok(CoreDefinition {
-        top,
+    Ok(RightSide {
         annotation: None,
         body,
     })
 }
 
-/// The definition that this declaration is, by the names of its module.
+/// What this declaration of the module defines, by the names of the module.
 fn defined_by(
     alloc: Global,
     names: &Names<'_>,
     home: &Module,
     declaration: &Declaration,
-    numbers: (u32, u32),
+    input: u32,
     room: &mut Room,
-) -> Result<CoreDefinition, NoMemory>
-    ensures { IfOk result (λ made. spec.made_of made
-        ≡ spec.defined_by (naming (tables_of names.now)) home.now numbers.0 numbers.1
-        declaration.now) }
+) -> Result<RightSide, NoMemory>
+    ensures { IfOk result (λ made. spec.right_of made
+        ≡ spec.defined_by (naming (tables_of names.now)) home.now input declaration.now) }
 {
-    let (top, input) = numbers;
     let declarations = home.declarations.as_slice();
     let annotation = annotation_in(alloc, names, declarations, declaration, room)?;
     let body = right_side(alloc, names, input, declaration, room)?;
-    Ok(CoreDefinition {
-        top,
-        annotation,
-        body,
-    })
+    Ok(RightSide { annotation, body })
 }
 
-/// The definition that this declaration of the module is.
+/// What this declaration of the module defines.
 fn defined_where(
     alloc: Global,
     whole: &Whole<'_>,
     home: &Module,
     declaration: &Declaration,
-    numbers: (u32, u32),
+    input: u32,
     room: &mut Room,
-) -> Result<CoreDefinition, NoMemory>
-    ensures { IfOk result (λ made. spec.made_of made
+) -> Result<RightSide, NoMemory>
+    ensures { IfOk result (λ made. spec.right_of made
         ≡ spec.defined_by (naming (spec.tables_in (spec.whole_of whole.now) home.now)) home.now
-        numbers.0 numbers.1 declaration.now) }
+        input declaration.now) }
 {
     let defaults = defaults_for(alloc, home.name.bytes())?;
     let names = Names {
@@ -94,7 +88,7 @@ fn defined_where(
             imports: home.imports.as_slice(),
         },
     };
-    defined_by(alloc, &names, home, declaration, numbers, room)
+    defined_by(alloc, &names, home, declaration, input, room)
 }
 
 fn defined_in(
@@ -102,17 +96,16 @@ fn defined_in(
     whole: &Whole<'_>,
     home: &Module,
     at: At,
-    top: u32,
     room: &mut Room,
-) -> Result<CoreDefinition, NoMemory>
-    ensures { IfOk result (λ made. spec.made_of made
-        ≡ spec.defined_in (spec.whole_of whole.now) top at (Some home.now)) }
+) -> Result<RightSide, NoMemory>
+    ensures { IfOk result (λ made. spec.right_of made
+        ≡ spec.defined_in (spec.whole_of whole.now) at (Some home.now)) }
 {
     match declared_at(home.declarations.as_slice(), at) {
-        None => no_definition(alloc, top),
+        None => nothing_defined(alloc),
         Some(declaration) => {
             let input = input_at(home.name.bytes(), at, whole.inputs)?;
-            defined_where(alloc, whole, home, declaration, (top, input), room)
+            defined_where(alloc, whole, home, declaration, input, room)
         }
     }
 }
@@ -122,16 +115,39 @@ fn defined_at(
     whole: &Whole<'_>,
     home: &[u8],
     at: At,
+    room: &mut Room,
+) -> Result<RightSide, NoMemory>
+    ensures { IfOk result (λ made. spec.right_of made
+        ≡ spec.defined_at (spec.whole_of whole.now) home.now at) }
+{
+    match module_named(whole.modules, home) {
+        None => nothing_defined(alloc),
+        Some(home) => defined_in(alloc, whole, home, at, room),
+    }
+}
+
+/// The definition at a place of this module.
+fn placed_at(
+    alloc: Global,
+    whole: &Whole<'_>,
+    home: &Name,
+    at: At,
     top: u32,
     room: &mut Room,
 ) -> Result<CoreDefinition, NoMemory>
     ensures { IfOk result (λ made. spec.made_of made
-        ≡ spec.defined_at (spec.whole_of whole.now) home.now top at) }
+        ≡ spec.placed_at (spec.whole_of whole.now) home.now top at) }
 {
-    match module_named(whole.modules, home) {
-        None => no_definition(alloc, top),
-        Some(home) => defined_in(alloc, whole, home, at, top, room),
-    }
+    let module = home.copy(alloc)?;
+    let name = name_in(alloc, whole.modules, home, at)?;
+    let right = defined_at(alloc, whole, home.bytes(), at, room)?;
+    Ok(CoreDefinition {
+        module,
+        at,
+        name,
+        top,
+        right,
+    })
 }
 
 /// A number that doesn't fit is want of memory.
@@ -167,7 +183,7 @@ fn group_from(
     let mut number = top;
     let mut left = group.members.as_slice();
     while let [at, more @ ..] = left {
-        made.push(defined_at(alloc, whole, group.module.bytes(), *at, number, room)?)?;
+        made.push(placed_at(alloc, whole, &group.module, *at, number, room)?)?;
         number = behind(number, 1)?;
         left = more;
     }

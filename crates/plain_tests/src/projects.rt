@@ -41,8 +41,8 @@ fn resolved(alloc: Global, text: &str) -> Result<Resolved, Fail> {
 }
 
 fn put_definition(text: &mut String, definition: &CoreDefinition) -> Result<(), AllocError> {
-    put_core(text, &definition.body)?;
-    if let Some(written) = &definition.annotation {
+    put_core(text, &definition.right.body)?;
+    if let Some(written) = &definition.right.annotation {
         text.push_str(" : ")?;
         put_type(text, written)?;
     }

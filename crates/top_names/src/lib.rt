@@ -5,4 +5,5 @@ mod natives;
 mod values;
 mod whole;
 
+pub use values::name_in;
 pub use whole::top_names;

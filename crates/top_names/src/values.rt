@@ -68,8 +68,8 @@ fn copy_or_nothing(alloc: Global, name: Option<&Name>) -> Result<Name, NoMemory>
     }
 }
 
-/// The name of the definition at a place of the module of this name.
-fn name_in(alloc: Global, modules: &[Module], home: &Name, at: At) -> Result<Name, NoMemory>
+/// The name of the definition at a place of the module of this name. It is empty where there is none.
+pub fn name_in(alloc: Global, modules: &[Module], home: &Name, at: At) -> Result<Name, NoMemory>
     ensures { IfOk result (λ name. name ≡ spec.name_in modules.now home.now at) }
 {
     let mut left = modules;
