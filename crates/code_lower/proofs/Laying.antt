@@ -29,11 +29,11 @@ named_append : (xs ys : List Term) → places_of_all (xs ++ ys) ≡ places_of_al
 named_append [] ys = refl
 named_append (x ∷ xs) ys = ap (λ l. places_of x ++ l) (named_append xs ys) ∙ sym (append_all (places_of x) (places_of_all xs) (places_of_all ys))
 
-times_append : (p : ℕ) (xs ys : List ℕ) → times p (xs ++ ys) ≡ times p xs + times p ys
+pub times_append : (p : ℕ) (xs ys : List ℕ) → times p (xs ++ ys) ≡ times p xs + times p ys
 times_append p [] ys = omega arith
 times_append p (x ∷ xs) ys = let rest = times_append p xs ys in omega arith
 
-below_front : (n : ℕ) (ps qs : List ℕ) → AllBelow n (ps ++ qs) → AllBelow n ps
+pub below_front : (n : ℕ) (ps qs : List ℕ) → AllBelow n (ps ++ qs) → AllBelow n ps
 below_front n [] qs h = tt
 below_front n (p ∷ ps) qs h = (h.0, below_front n ps qs h.1)
 
@@ -92,8 +92,8 @@ low_or_high : (p n : ℕ) → (p < n) ⊎ (n ≤ p)
 low_or_high p zero = inr (omega arith)
 low_or_high zero (suc n) = inl (omega arith)
 low_or_high (suc p) (suc n) = elim (low_or_high p n) as (λ _. (suc p < suc n) ⊎ (suc n ≤ suc p)) [
-    | inl lt ↦ inl (omega (arith, lt))
-    | inr le ↦ inr (omega (arith, le))
+  | inl lt ↦ inl (omega (arith, lt))
+  | inr le ↦ inr (omega (arith, le))
 ]
 
 -- ---- trees from the left
@@ -166,12 +166,12 @@ Order a added = (at : ℕ) (t : Term) → slice_get added at ≡ Some t → AllB
 
 orders_join : (a b xs ys : List Term) → b ≡ a ++ xs → Order a xs → Order b ys → Order a (xs ++ ys)
 orders_join a b xs ys grown f g at t e = elim (low_or_high at (length xs)) as (λ _. AllBelow (length a + at) (places_of t)) [
-    | inl lt ↦ f at t (get_before xs ys at t lt e)
-    | inr le ↦
-        (let r = get_behind xs ys at t le e in
-        let size : length b ≡ length a + length xs = ap length grown ∙ length-append a xs in
-        let same : length b + r.0 ≡ length a + at = omega (arith, size, r.1) in
-        subst (λ (n : ℕ). AllBelow n (places_of t)) same (g r.0 t r.2))
+  | inl lt ↦ f at t (get_before xs ys at t lt e)
+  | inr le ↦
+      (let r = get_behind xs ys at t le e in
+      let size : length b ≡ length a + length xs = ap length grown ∙ length-append a xs in
+      let same : length b + r.0 ≡ length a + at = omega (arith, size, r.1) in
+      subst (λ (n : ℕ). AllBelow n (places_of t)) same (g r.0 t r.2))
 ]
 
 -- what two steps name, in another order
@@ -181,7 +181,7 @@ named_join p ps qs xs ys =
     let whole = times_append p (ps ++ qs) (places_of_all (xs ++ ys)) in
     let front = times_append p ps qs in
     let back : times p (places_of_all (xs ++ ys)) ≡ times p (places_of_all xs) + times p (places_of_all ys) =
-        ap (times p) (named_append xs ys) ∙ times_append p (places_of_all xs) (places_of_all ys) in
+    ap (times p) (named_append xs ys) ∙ times_append p (places_of_all xs) (places_of_all ys) in
     let first = times_append p ps (places_of_all xs) in
     let second = times_append p qs (places_of_all ys) in
     omega (arith, whole, front, back, first, second)
@@ -231,11 +231,11 @@ one_more xs t at u le e =
 
 closing_order : (a xs : List Term) (t : Term) → Order a xs → AllBelow (length a + length xs) (places_of t) → Order a (xs ++ t ∷ [])
 closing_order a xs t f h at u e = elim (low_or_high at (length xs)) as (λ _. AllBelow (length a + at) (places_of u)) [
-    | inl lt ↦ f at u (get_before xs (t ∷ []) at u lt e)
-    | inr le ↦
-        (let r = one_more xs t at u le e in
-        let same : length a + length xs ≡ length a + at = omega (arith, r.0) in
-        subst (λ (n : ℕ). AllBelow n (places_of u)) same (subst (λ (x : Term). AllBelow (length a + length xs) (places_of x)) (sym r.1) h))
+  | inl lt ↦ f at u (get_before xs (t ∷ []) at u lt e)
+  | inr le ↦
+      (let r = one_more xs t at u le e in
+      let same : length a + length xs ≡ length a + at = omega (arith, r.0) in
+      subst (λ (n : ℕ). AllBelow n (places_of u)) same (subst (λ (x : Term). AllBelow (length a + length xs) (places_of x)) (sym r.1) h))
 ]
 
 named_once : (xs : List Term) (t : Term) → places_of_all (xs ++ t ∷ []) ≡ places_of_all xs ++ places_of t
@@ -252,15 +252,17 @@ closes a b new ps ts t at u place grown parts is f =
       added = f.added ++ t ∷ [];
       grown = grown ∙ ap (λ l. l ++ t ∷ []) f.grown ∙ append_all a f.added (t ∷ []);
       lower = closing_order a f.added t f.lower (subst (λ (n : ℕ). AllBelow n (places_of t)) size mine);
-      from =
-          (omega (arith, place, size),
-          subst (AllFrom (length a)) (sym named)
-          (from_both (length a) (places_of_all f.added) ps (from_back (length a) ps (places_of_all f.added) f.from) (from_front (length a) ps (places_of_all f.added) f.from)));
-      below =
-          (omega (arith, place, whole),
-          below_more (length b) (length new) (places_of_all (f.added ++ t ∷ [])) (omega (arith, whole))
-          (subst (AllBelow (length b)) (sym named)
-          (below_both (length b) (places_of_all f.added) ps (below_back (length b) ps (places_of_all f.added) f.below) (below_front (length b) ps (places_of_all f.added) f.below))));
+      from = (
+        omega (arith, place, size),
+        subst (AllFrom (length a)) (sym named)
+            (from_both (length a) (places_of_all f.added) ps (from_back (length a) ps (places_of_all f.added) f.from) (from_front (length a) ps (places_of_all f.added) f.from)),
+      );
+      below = (
+        omega (arith, place, whole),
+        below_more (length b) (length new) (places_of_all (f.added ++ t ∷ [])) (omega (arith, whole))
+            (subst (AllBelow (length b)) (sym named)
+            (below_both (length b) (places_of_all f.added) ps (below_back (length b) ps (places_of_all f.added) f.below) (below_front (length b) ps (places_of_all f.added) f.below))),
+      );
       once = λ p. counted p named;
       are = ap (λ e. e ∷ []) (ap (λ (terms : List Term). tree_at (trees_of terms) at) grown ∙ ap (tree_at (trees_of (b ++ t ∷ []))) place ∙ last_tree b t ∙ is);
     }

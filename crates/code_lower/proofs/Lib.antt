@@ -5,3 +5,4 @@ pub mod Outs
 pub mod Turns
 pub mod Shapes
 pub mod Wholes
+pub mod Program

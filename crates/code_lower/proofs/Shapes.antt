@@ -285,10 +285,10 @@ groups_are ts (m ∷ made) (g ∷ gs) body p q =
     let here : patterns_of m ≡ patterns_in (group_members g) = cc in
     let more : map patterns_of made ≡ map (λ g. patterns_in (group_members g)) gs = cc in
     let long : length (map (tree_at ts) (places_of_branches m)) ≡ length (trees_in (group_members g)) =
-        as_many (tree_at ts) (places_of_branches m) ∙ as_many (λ b. b.1) m ∙ sym (as_many (λ b. pattern_of b.0) m) ∙ ap length here
-        ∙ as_many (λ b. b.0) (group_members g) ∙ sym (as_many (λ b. b.1) (group_members g)) in
+    as_many (tree_at ts) (places_of_branches m) ∙ as_many (λ b. b.1) m ∙ sym (as_many (λ b. pattern_of b.0) m) ∙ ap length here
+    ∙ as_many (λ b. b.0) (group_members g) ∙ sym (as_many (λ b. b.1) (group_members g)) in
     let parts = split (map (tree_at ts) (places_of_branches m)) (trees_in (group_members g)) (map (tree_at ts) (places_of_groups made)) (all_trees_in (map group_members gs)) long
-        (sym (map_append (tree_at ts) (places_of_branches m) (places_of_groups made)) ∙ q) in
+    (sym (map_append (tree_at ts) (places_of_branches m) (places_of_groups made)) ∙ q) in
     ap (group_tree (functions_at ts m) ts m) (groups_are ts made gs body more parts.1) ∙ group_is ts m g (groups_before gs body) here parts.0
 
 pub let_form : (a b c new : List Term) (made : List (List (TermPattern × ℕ))) (p at : ℕ) (w e : CoreTree) (given gs : List LetGroup) → w ≡ t.Let gs e → given ≡ gs →
@@ -297,7 +297,7 @@ pub let_form : (a b c new : List Term) (made : List (List (TermPattern × ℕ)))
 let_form a b c new made p at w e given gs is same f patterns g pushed =
     let whole = joins a b c (places_of_groups made) (p ∷ []) (all_trees_in (map group_members given)) (tree_for e ∷ []) f g in
     let both = split (map (tree_at (trees_of c)) (places_of_groups made)) (all_trees_in (map group_members given)) (tree_at (trees_of c) p ∷ []) (tree_for e ∷ []) (counted f.are)
-        (sym (map_append (tree_at (trees_of c)) (places_of_groups made) (p ∷ [])) ∙ whole.are) in
+    (sym (map_append (tree_at (trees_of c)) (places_of_groups made) (p ∷ [])) ∙ whole.are) in
     let body : tree_at (trees_of c) p ≡ tree_for e = cc in
     closes a c new (places_of_groups made ++ p ∷ []) (all_trees_in (map group_members given) ++ tree_for e ∷ []) (term.Let made p) at (choice_for w) pushed.0 pushed.1 refl
     (ap (let_tree (trees_of c) made) body ∙ groups_are (trees_of c) made given (tree_for e) patterns both.0 ∙ ap (λ l. groups_before l (tree_for e)) same ∙ sym (ap choice_layer (out_let w gs e is)))

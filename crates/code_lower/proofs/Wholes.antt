@@ -138,9 +138,10 @@ function_is f = fold_out-LetFunction Core Group Function core_step group_step fu
 functions_are : (fs : List LetFunction) → (trees_in (members_in (functions (map function_of fs))) ≡ map function_tree fs) × (patterns_in (members_in (functions (map function_of fs))) ≡ map function_name fs)
 functions_are [] = (refl, refl)
 functions_are (f ∷ fs) =
-    let rest = functions_are fs in
-    (ap₂ (λ x l. x ∷ l) (ap (λ k. Tree.Lambda (erased_pattern k.pattern) (lowered k.body)) (function_is f) ∙ ap (Tree.Lambda (pattern_for f.pattern)) (lambdas_are f.more (core_of f.body))) rest.0,
-    ap₂ (λ x l. x ∷ l) (ap (λ k. Pattern.Local k.number) (function_is f)) rest.1)
+    let rest = functions_are fs in (
+      ap₂ (λ x l. x ∷ l) (ap (λ k. Tree.Lambda (erased_pattern k.pattern) (lowered k.body)) (function_is f) ∙ ap (Tree.Lambda (pattern_for f.pattern)) (lambdas_are f.more (core_of f.body))) rest.0,
+      ap₂ (λ x l. x ∷ l) (ap (λ k. Pattern.Local k.number) (function_is f)) rest.1,
+    )
 
 group_functions : (fs : List LetFunction) → group_of (g.Functions fs) ≡ Functions (functions (map function_of fs))
 group_functions fs = ap group_of (sym (g.rolls-Functions fs)) ∙ fold-roll-LetGroup Core Group Function core_step group_step function_step (tree.Functions fs)

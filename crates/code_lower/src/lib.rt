@@ -4,5 +4,6 @@
 mod patterns;
 mod terms;
 mod walk;
+mod whole;
 
-pub use walk::push_tree;
+pub use whole::lower;

@@ -79,11 +79,7 @@ pub fn push_lambdas(
 }
 
 /// Appends a term that has no parts. Of another tree it appends what has none.
-pub fn push_leaf(
-    alloc: Global,
-    tree: &CoreTree,
-    out: &mut Items<Term>,
-) -> Result<u32, NoMemory>
+pub fn push_leaf(alloc: Global, tree: &CoreTree, out: &mut Items<Term>) -> Result<u32, NoMemory>
     ensures { IfOk result (λ at. Lowers out.old out.new (at ∷ [])
         (spec.leaf_for tree.now ∷ [])) }
 {

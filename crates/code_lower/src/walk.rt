@@ -5,7 +5,7 @@ ghost use Rattle.code_lower.specs.Laying as spec;
 ghost use Rattle.code_lower.specs.Laying.{Lowers, Wraps};
 
 use crate::patterns::lower_pattern;
-use crate::terms::{push_leaf, push_nothing, push_lambdas, push_term};
+use crate::terms::{push_lambdas, push_leaf, push_nothing, push_term};
 use core_trees::{CoreTree, LetFunction, LetGroup, PatternTree};
 use elm_base::{Name, NoMemory, Term, TermPattern};
 use sqlite_items::{Boxed, Items};

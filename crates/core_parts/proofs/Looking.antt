@@ -26,4 +26,3 @@ pub get_again : {A : Type 0} (i : ℕ) (xs : List A) (d : A) → i < length xs �
 get_again i [] d h = absurd (omega (arith, h))
 get_again zero (x ∷ xs) d h = refl
 get_again (suc i) (x ∷ xs) d h = get_next i xs d (get_or xs i d) (omega (arith, h))
-

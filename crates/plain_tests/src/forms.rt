@@ -131,10 +131,7 @@ const GROUPS: [Row; 8] = [
         "port p : Signal Int\nport q : Signal Int\nport q = p\nport r : Signal Int\n",
         " ?1; $3 : Signal.Signal Basics.Int; ?2;",
     ),
-    (
-        "import Signal\nf = Signal.clicks\n",
-        " $2;",
-    ),
+    ("import Signal\nf = Signal.clicks\n", " $2;"),
 ];
 
 /// Ends the test where a plain form of these modules is another.

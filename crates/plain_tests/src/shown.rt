@@ -186,13 +186,10 @@ pub fn put_core(text: &mut String, tree: &CoreTree) -> Result<(), AllocError> {
             put_part(text, no)
         }
         CoreTree::Guards { branches } => put_guards(text, branches.as_slice()),
-        CoreTree::Case {
-            scrutinee,
-            branches,
-        } => {
+        CoreTree::Case { scrutinee, .. } => {
             text.push_str("case")?;
             put_part(text, scrutinee)?;
-            put_branches(text, branches.as_slice())
+            put_branches(text, tree)
         }
         CoreTree::Let { groups, body } => {
             text.push_str("let")?;
@@ -290,8 +287,13 @@ fn put_guards(text: &mut String, branches: &[(CoreTree, CoreTree)]) -> Result<()
     Ok(())
 }
 
+/// The branches of a `case`.
 #[cycle(terms)]
-fn put_branches(text: &mut String, branches: &[(PatternTree, CoreTree)]) -> Result<(), AllocError> {
+fn put_branches(text: &mut String, tree: &CoreTree) -> Result<(), AllocError> {
+    let CoreTree::Case { branches, .. } = tree else {
+        return Ok(());
+    };
+    let branches = branches.as_slice();
     for (pattern, chosen) in branches {
         text.push_str("(")?;
         put_pattern(text, pattern)?;

@@ -92,18 +92,20 @@ push_calls-loop-argument-preserved t c =
     turns.calls_turn _ _ _ _ _ _ _ _ c.loop-argument.argument-index c.args.arguments.now c.argument-item.result c.loop-argument-test.true c.argument-item.is c.loop-argument.invariant c.in_ok-argument.ensures c.in_ok-at.ensures
 
 pub push_fields-loop-label-preserved : goal.push_fields-loop-label-preserved
-push_fields-loop-label-preserved t c =
-    (turns.turn (λ field. tree_for field.1) (λ field. field.1) _ _ _ _ _ c.loop-label.label-index c.args.fields.now c.loop-label-item.result _ c.loop-label-test.true c.loop-label-item.is c.loop-label.invariant.0 c.in_ok-push_tree.ensures c.in_ok-push.ensures.ok,
-    turns.words_turn (λ field. field.0) (λ field. field.0) _ _ c.loop-label.label-index c.args.fields.now c.loop-label-item.result _ c.loop-label-test.true c.loop-label-item.is c.loop-label.invariant.1 c.in_ok-label.ensures c.in_ok-push.ensures.ok)
+push_fields-loop-label-preserved t c = (
+  turns.turn (λ field. tree_for field.1) (λ field. field.1) _ _ _ _ _ c.loop-label.label-index c.args.fields.now c.loop-label-item.result _ c.loop-label-test.true c.loop-label-item.is c.loop-label.invariant.0 c.in_ok-push_tree.ensures c.in_ok-push.ensures.ok,
+  turns.words_turn (λ field. field.0) (λ field. field.0) _ _ c.loop-label.label-index c.args.fields.now c.loop-label-item.result _ c.loop-label-test.true c.loop-label-item.is c.loop-label.invariant.1 c.in_ok-label.ensures c.in_ok-push.ensures.ok,
+)
 
 pub push_pairs-loop-condition-preserved : goal.push_pairs-loop-condition-preserved
 push_pairs-loop-condition-preserved t c =
     turns.pairs_turn _ _ _ _ _ _ c.loop-condition.condition-index c.args.pairs.now c.loop-condition-item.result _ _ c.loop-condition-test.true c.loop-condition-item.is c.loop-condition.invariant c.in_ok-condition.ensures c.in_ok-push_tree.ensures c.in_ok-push.ensures.ok
 
 pub push_branches-loop-pattern-preserved : goal.push_branches-loop-pattern-preserved
-push_branches-loop-pattern-preserved t c =
-    (turns.turn (λ branch. tree_for branch.1) (λ branch. branch.1) _ _ _ _ _ c.loop-pattern.pattern-index c.as_slice-branches.result.now c.loop-pattern-item.result _ c.loop-pattern-test.true c.loop-pattern-item.is c.loop-pattern.invariant.0 c.in_ok-push_tree.ensures c.in_ok-push.ensures.ok,
-    turns.words_turn (λ branch. spec.pattern_for branch.0) (λ branch. pattern_of branch.0) _ _ c.loop-pattern.pattern-index c.as_slice-branches.result.now c.loop-pattern-item.result _ c.loop-pattern-test.true c.loop-pattern-item.is c.loop-pattern.invariant.1 c.in_ok-pattern.ensures c.in_ok-push.ensures.ok)
+push_branches-loop-pattern-preserved t c = (
+  turns.turn (λ branch. tree_for branch.1) (λ branch. branch.1) _ _ _ _ _ c.loop-pattern.pattern-index c.as_slice-branches.result.now c.loop-pattern-item.result _ c.loop-pattern-test.true c.loop-pattern-item.is c.loop-pattern.invariant.0 c.in_ok-push_tree.ensures c.in_ok-push.ensures.ok,
+  turns.words_turn (λ branch. spec.pattern_for branch.0) (λ branch. pattern_of branch.0) _ _ c.loop-pattern.pattern-index c.as_slice-branches.result.now c.loop-pattern-item.result _ c.loop-pattern-test.true c.loop-pattern-item.is c.loop-pattern.invariant.1 c.in_ok-pattern.ensures c.in_ok-push.ensures.ok,
+)
 
 pub push_branches-returns-in_default : goal.push_branches-returns-in_default
 push_branches-returns-in_default t c =
@@ -122,9 +124,10 @@ push_branches-returns-clause-patterns t c =
     c.loop-pattern.invariant.1 ∙ ap spec.branch_patterns (turns.take_all c.loop-pattern.pattern-index c.as_slice-branches.result.now c.loop-pattern-test.false ∙ c.as_slice-branches.ensures ∙ sym (ap spec.cases_layer (out_case c.args.tree.now _ _ c.in-Case.is)))
 
 pub push_functions-loop-function-preserved : goal.push_functions-loop-function-preserved
-push_functions-loop-function-preserved t c =
-    (turns.turn spec.function_tree (λ member. member.1) _ _ _ _ _ c.loop-function.function-index c.args.functions.now c.function-item.result _ c.loop-function-test.true c.function-item.is c.loop-function.invariant.0 c.in_ok-at.ensures c.in_ok-push.ensures.ok,
-    turns.words_turn spec.function_name (λ member. pattern_of member.0) _ _ c.loop-function.function-index c.args.functions.now c.function-item.result _ c.loop-function-test.true c.function-item.is c.loop-function.invariant.1 (wholes.local_is c.function-item.result.number) c.in_ok-push.ensures.ok)
+push_functions-loop-function-preserved t c = (
+  turns.turn spec.function_tree (λ member. member.1) _ _ _ _ _ c.loop-function.function-index c.args.functions.now c.function-item.result _ c.loop-function-test.true c.function-item.is c.loop-function.invariant.0 c.in_ok-at.ensures c.in_ok-push.ensures.ok,
+  turns.words_turn spec.function_name (λ member. pattern_of member.0) _ _ c.loop-function.function-index c.args.functions.now c.function-item.result _ c.loop-function-test.true c.function-item.is c.loop-function.invariant.1 (wholes.local_is c.function-item.result.number) c.in_ok-push.ensures.ok,
+)
 
 pub push_group-returns-in-Functions-clause-placed : goal.push_group-returns-in-Functions-clause-placed
 push_group-returns-in-Functions-clause-placed t c =
@@ -135,9 +138,10 @@ push_group-returns-in-Functions-clause-patterns t c =
     subst (λ l. IfOk c.push_functions.result (λ made. spec.patterns_of made ≡ l)) (wholes.functions_names c.args.group.now _ _ c.in-Functions.is c.as_slice.ensures) c.push_functions.ensures.patterns
 
 pub push_groups-loop-group-preserved : goal.push_groups-loop-group-preserved
-push_groups-loop-group-preserved t c =
-    (turns.groups_turn _ _ _ _ _ c.loop-group.group-index c.args.groups.now c.group-item.result _ c.loop-group-test.true c.group-item.is c.loop-group.invariant.0 c.in_ok-push_group.ensures.placed c.in_ok-push.ensures.ok,
-    turns.words_turn (λ group. spec.patterns_in (spec.group_members group)) spec.patterns_of _ _ c.loop-group.group-index c.args.groups.now c.group-item.result _ c.loop-group-test.true c.group-item.is c.loop-group.invariant.1 c.in_ok-push_group.ensures.patterns c.in_ok-push.ensures.ok)
+push_groups-loop-group-preserved t c = (
+  turns.groups_turn _ _ _ _ _ c.loop-group.group-index c.args.groups.now c.group-item.result _ c.loop-group-test.true c.group-item.is c.loop-group.invariant.0 c.in_ok-push_group.ensures.placed c.in_ok-push.ensures.ok,
+  turns.words_turn (λ group. spec.patterns_in (spec.group_members group)) spec.patterns_of _ _ c.loop-group.group-index c.args.groups.now c.group-item.result _ c.loop-group-test.true c.group-item.is c.loop-group.invariant.1 c.in_ok-push_group.ensures.patterns c.in_ok-push.ensures.ok,
+)
 
 pub push_tree-returns-in-Lambda : goal.push_tree-returns-in-Lambda
 push_tree-returns-in-Lambda t c =
