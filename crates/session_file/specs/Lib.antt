@@ -1,2 +1,4 @@
 pub mod Sessions
 pub mod Answers
+pub mod Order
+pub mod Written

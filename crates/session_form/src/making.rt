@@ -1,5 +1,5 @@
 //! The parts of a session, made as JSON.
-ghost use Rattle.std.specs.Prelude.{◌≡◌, IfOk, map};
+ghost use Rattle.std.specs.Prelude.{◌≡◌, IfOk, map, string_bytes};
 ghost use Rattle.serde_json.specs.View.{view};
 ghost use Rattle.session_form.specs.Form as form;
 
@@ -14,15 +14,16 @@ pub fn delivery_value(alloc: Global, number: u64) -> Result<Value, AllocError>
 }
 
 /// An input event, `[I, TEXT]`: the place of its input and the text of its value.
-pub fn input_value(alloc: Global, place: u64, text: &str) -> Result<Value, AllocError>
-    ensures { IfOk result (λ value. view value ≡ form.input place text.now) }
+pub fn input_value(alloc: Global, place: u64, text: String) -> Result<Value, AllocError>
+    ensures { IfOk result (λ value. view value ≡ form.input place (string_bytes text)) }
 {
     json!(in alloc; [place, text])
 }
 
 /// An input, `[NAME, TYPE]`.
-pub fn named_value(alloc: Global, name: &str, port: &str) -> Result<Value, AllocError>
-    ensures { IfOk result (λ value. view value ≡ form.named name.now port.now) }
+pub fn named_value(alloc: Global, name: String, port: String) -> Result<Value, AllocError>
+    ensures { IfOk result (λ value. view value
+        ≡ form.named (string_bytes name) (string_bytes port)) }
 {
     json!(in alloc; [name, port])
 }
