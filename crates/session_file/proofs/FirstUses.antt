@@ -68,7 +68,7 @@ equal_names a b h = (bytes_eq-Decides a b).0 h
 own_name : (a : List ℕ) → bytes_eq a a ≡ true
 own_name a = (bytes_eq-Decides a a).1 refl
 
-not_turned : (a b : List ℕ) → not (bytes_eq a b) ≡ true → not (bytes_eq b a) ≡ true
+pub not_turned : (a b : List ℕ) → not (bytes_eq a b) ≡ true → not (bytes_eq b a) ≡ true
 not_turned a b h = go (bytes_eq b a) refl where
   go : (t : Bool) → bytes_eq b a ≡ t → not t ≡ true
   go false e = refl

@@ -1,6 +1,7 @@
 pub mod Again
 pub mod Describing
 pub mod Eaches
+pub mod Few
 pub mod FirstUses
 pub mod Letters
 pub mod Naming

@@ -2,3 +2,4 @@ pub mod Sessions
 pub mod Answers
 pub mod Order
 pub mod Written
+pub mod Worked

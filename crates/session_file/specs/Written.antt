@@ -1,5 +1,6 @@
 -- The text of a session, as it is written.
-use Rattle.std.specs.Prelude.{◌≡◌, ◌≤◌, ◌++◌, ℕ, suc, All, IsTrue, if◌then◌else◌, List, [], ◌∷◌, map, length, Result, Ok, Err}
+use Rattle.std.specs.Prelude.{◌≡◌, ◌≤◌, ◌++◌, ℕ, suc, All, Bool, IsTrue, if◌then◌else◌, List, [], ◌∷◌, map, length, Result, Ok, Err}
+use Rattle.std.specs.List.{list_any}
 use Rattle.std.specs.Str.{bytes_eq}
 use Rattle.serde_json.specs.Data.{Data}
 use Rattle.serde_json.specs.Written.{compact_text}
@@ -117,3 +118,17 @@ MayBeWrittenAgain = (bytes : List ℕ) (cursor : ℕ) (events : List Event) → 
 -- the value of a literal is of the literal's type
 abbrev pub LiteralIsOfItsType : Type 0
 LiteralIsOfItsType = (port : PortType) (given : PortValue) (text : List ℕ) → IsLiteral port given text → IsTrue (is_of port given)
+
+-- ---- how many inputs there are
+
+abbrev pub is_among : List (List ℕ) → List ℕ → Bool
+is_among names name = list_any (λ other. bytes_eq name other) names
+
+-- an input event has one of these names
+abbrev pub IsAmong : List (List ℕ) → Event → Type 0
+IsAmong names (event.Deliver number) = Unit {0}
+IsAmong names (event.Input name port value) = IsTrue (is_among names name)
+
+-- Events use at most as many inputs as their program has names.
+abbrev pub FewInputs : Type 0
+FewInputs = (names : List (List ℕ)) (events : List Event) → All (IsAmong names) events → length (inputs_of events) ≤ length names

@@ -38,3 +38,8 @@ pub fn a_session_may_be_written_again()
 pub fn a_literals_value_is_of_its_type()
     ensures { written.LiteralIsOfItsType }
 {}
+
+/// Events use at most as many inputs as their program has names. So the bound on inputs holds of each program's events.
+pub fn events_use_few_inputs()
+    ensures { written.FewInputs }
+{}

@@ -10,12 +10,14 @@ mod order;
 mod reading;
 mod session;
 mod uses;
+mod worked;
 mod writing;
 
 pub use laws::{
     a_literals_value_is_of_its_type, a_session_may_be_written_again, bytes_spell_one_session,
-    inputs_are_in_the_order_of_first_use, what_spells_a_session_is_read,
+    events_use_few_inputs, inputs_are_in_the_order_of_first_use, what_spells_a_session_is_read,
 };
 pub use reading::read;
 pub use session::{BadSession, Session};
+pub use worked::uses_are_as_worked;
 pub use writing::write;
