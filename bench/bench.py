@@ -118,9 +118,10 @@ const text = require("fs").readFileSync(process.argv[1], "utf8");
 const best = work => {
   const times = [];
   for (let run = 0; run < 5; run++) {
-    const begun = process.hrtime.bigint();
+    const begun = process.cpuUsage();
     work();
-    times.push(Number(process.hrtime.bigint() - begun) / 1e9);
+    const spent = process.cpuUsage(begun);
+    times.push((spent.user + spent.system) / 1e6);
   }
   return Math.min(...times);
 };
@@ -130,22 +131,34 @@ console.log(best(() => JSON.parse(text)), best(() => JSON.stringify(value)));
 
 
 def node(path):
-    """The best seconds of JSON.parse and of JSON.stringify over a file, in one process; none without Node."""
+    """The least seconds of processor of JSON.parse and of JSON.stringify over a file, in one process; none without Node."""
     if not shutil.which("node"):
         return None
     done = subprocess.run(["node", "-e", NODE, path], capture_output=True, text=True, check=True)
     return [float(word) for word in done.stdout.split()]
 
 
+def processor(words, path):
+    """The least seconds of processor and the greatest memory of several runs over a file, and what was written."""
+    def one():
+        with open(path, "rb") as text, tempfile.TemporaryFile() as screen:
+            child = subprocess.Popen(words, stdin=text, stdout=screen, cwd=TOP)
+            _, _, usage = os.wait4(child.pid, 0)
+            screen.seek(0)
+            return usage.ru_utime + usage.ru_stime, usage.ru_maxrss * 1024, screen.read().decode()
+    return min(one() for _ in range(RUNS))
+
+
 def sessions(folder):
-    """Reading and writing, each less what stands before it, beside Node's JSON.parse and JSON.stringify of the same text."""
+    """Reading and writing, each less what stands before it, beside Node's JSON.parse and JSON.stringify of the same text.
+    All in seconds of processor."""
     import texts
     for make in [texts.deliveries, texts.input_events]:
         for count in [250_000, 500_000, 1_000_000]:
             text = make(count).encode()
             seconds = []
             for rounds in [b"0 0\n", b"1 0\n", b"0 1\n"]:
-                spent, memory, _, said, _ = best([program("session_bench")], written(folder, [rounds, text]))
+                spent, memory, said = processor([program("session_bench")], written(folder, [rounds, text]))
                 seconds.append(spent)
             assert said.strip() == f"0 events read, {len(text)} bytes written"
             what = f"{make.__doc__}: {count}, {len(text)} bytes"
