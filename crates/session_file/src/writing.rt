@@ -87,7 +87,7 @@ fn event_values(
     ensures { IfOk result (λ made. map view made.items
         ≡ map (spec.event_data inputs.now) events.now) }
 {
-    let mut values = Vec::new(alloc);
+    let mut values = Vec::with_capacity(alloc, events.len())?;
     for event in events {
         values.push(event_value(alloc, inputs, event)?)?;
     }

@@ -1,4 +1,4 @@
-//! The parts of a session, made as JSON.
+//! The parts of a session, made as JSON. Those of events take no more room than they need, since there may be a million.
 ghost use Rattle.std.specs.Prelude.{◌≡◌, IfOk, map, string_bytes};
 ghost use Rattle.serde_json.specs.View.{view};
 ghost use Rattle.session_form.specs.Form as form;
@@ -10,14 +10,19 @@ use std::alloc::{AllocError, Global};
 pub fn delivery_value(alloc: Global, number: u64) -> Result<Value, AllocError>
     ensures { IfOk result (λ value. view value ≡ form.delivery number) }
 {
-    json!(in alloc; [number])
+    let mut items = Vec::with_capacity(alloc, 1)?;
+    items.push(Value::from(number))?;
+    Ok(Value::from(items))
 }
 
 /// An input event, `[I, TEXT]`: the place of its input and the text of its value.
 pub fn input_value(alloc: Global, place: u64, text: String) -> Result<Value, AllocError>
     ensures { IfOk result (λ value. view value ≡ form.input place (string_bytes text)) }
 {
-    json!(in alloc; [place, text])
+    let mut items = Vec::with_capacity(alloc, 2)?;
+    items.push(Value::from(place))?;
+    items.push(Value::from(text))?;
+    Ok(Value::from(items))
 }
 
 /// An input, `[NAME, TYPE]`.
