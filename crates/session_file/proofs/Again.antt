@@ -1,12 +1,10 @@
 -- Bytes that spell a session are read as this session.
-use Rattle.std.proofs.Common.{◌≡◌, ◌≢◌, ℕ, List, Result, Ok, Err, refl}
+use Rattle.std.proofs.Common.{◌≡◌, ◌≢◌, Ok, Err, refl}
 use Rattle.elm_base.specs.declared.memory.Halt.{Halt}
 use Rattle.elm_base.specs.declared.memory.Halt.TheVariants as halt
-use Rattle.elm_base.specs.declared.event.Event.{Event}
 use Rattle.session_file.specs.declared.session.BadSession.{BadSession}
-use Rattle.session_file.specs.Answers.{Answers}
-use Rattle.session_file.specs.Sessions.{SessionOf, OneSession}
-use Rattle.session_file.specs.Written.{IsIt, IsReadAgain}
+use Rattle.session_file.specs.Sessions.{OneSession}
+use Rattle.session_file.specs.Written.{IsReadAgain}
 
 of_memory : (cause : Halt BadSession) → (cause ≢ halt.NoMemory → ⊥) → cause ≡ halt.NoMemory
 of_memory halt.NoMemory h = refl

@@ -1,6 +1,6 @@
 -- What is printed of the type of a program's port is UTF-8.
-use Rattle.std.proofs.Common.{◌≡◌, ℕ, Bool, true, false, nat_lt, ◌&&◌, IsTrue, IsUtf8, if◌then◌else◌, List, [], ◌∷◌, ◌++◌, map, codes, refl, sym, ◌∙◌, ap, subst}
-use Rattle.std.specs.List.{list_all, flat_map}
+use Rattle.std.proofs.Common.{◌≡◌, ℕ, Bool, true, false, nat_lt, ◌&&◌, IsTrue, IsUtf8, if◌then◌else◌, List, [], ◌∷◌, ◌++◌, map, codes, refl, sym, ◌∙◌, subst}
+use Rattle.std.specs.List.{list_all}
 use Rattle.std.proofs.lemmas.Str.{IsUtf8-append, IsUtf8-nil}
 use Rattle.elm_base.specs.declared.event.PortType.{PortType, map-PortType, roll-PortType}
 use Rattle.elm_base.specs.declared.event.PortType.TheOpen as type
@@ -80,8 +80,7 @@ passed ys = map pass_field (map port_field ys)
 record_good : (ys : List Field) → are_labels (passed ys) ≡ true → list_all (λ (f : List ℕ × Bool). f.1) (passed ys) ≡ true → FieldsGood (map described_field (map port_field ys))
 record_good [] names is = tt
 record_good (y ∷ ys) names is =
-    let own = and_left (is_label y.0) _ (and_left (is_label y.0 && is_new y.0 (passed ys)) _ names) in
-    (
+    let own = and_left (is_label y.0) _ (and_left (is_label y.0 && is_new y.0 (passed ys)) _ names) in (
       label_good y.0 own,
       y.1.1 (and_left (is_port y.1.0) _ is),
       record_good ys (and_right (is_label y.0 && is_new y.0 (passed ys)) _ names) (and_right (is_port y.1.0) _ is),

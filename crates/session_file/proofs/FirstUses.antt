@@ -1,20 +1,15 @@
 -- The inputs that events use, in the order of their first use.
-use Rattle.std.proofs.Common.{◌≡◌, ◌<◌, ◌≤◌, ◌==◌, ◌&&◌, max, ℕ, zero, suc, Bool, true, false, true≢false, not, nat_le, if◌then◌else◌, List, [], ◌∷◌, ◌++◌, map, length, get_or, All, Option, Some, None, refl, sym, ◌∙◌, ap, ap₂, subst, arith}
-use Rattle.std.specs.Prelude.{slice_get, ⊤}
+use Rattle.std.proofs.Common.{◌≡◌, ◌<◌, ◌≤◌, ◌==◌, ◌&&◌, max, ℕ, zero, suc, Bool, true, false, true≢false, not, nat_le, if◌then◌else◌, List, [], ◌∷◌, ◌++◌, map, length, All, Some, refl, sym, ◌∙◌, ap, ap₂, subst, arith}
+use Rattle.std.specs.Prelude.{slice_get}
 use Rattle.std.specs.Str.{bytes_eq}
-use Rattle.std.proofs.lemmas.List.{append_assoc, append-nil, length-append}
+use Rattle.std.proofs.lemmas.List.{append_assoc, append-nil}
 use Rattle.std.proofs.lemmas.Slice.Eq.{bytes_eq-Decides}
 use Rattle.elm_base.specs.declared.event.PortType.{PortType}
-use Rattle.elm_base.specs.declared.event.PortValue.{PortValue}
 use Rattle.elm_base.specs.declared.event.Event.{Event}
 use Rattle.elm_base.specs.declared.event.Event.TheVariants as event
-use Rattle.port_values.specs.ValueText.{value_text}
 use Rattle.port_literals.specs.Ports.{is_new}
-use Rattle.session_form.specs.Form as form
-use Rattle.session_form.specs.Reader.{place_in}
-use Rattle.session_file.specs.Sessions as spec
 use Rattle.session_file.specs.Sessions.{Inputs, in_order, are_different}
-use Rattle.session_file.specs.Written.{with_input, with_event, used_by, inputs_of, place_of, event_data, HasType}
+use Rattle.session_file.specs.Written.{with_input, with_event, used_by, place_of, event_data}
 use Rattle.session_file.proofs.Letters.{and_left, and_right}
 
 abbrev Input : Type 0

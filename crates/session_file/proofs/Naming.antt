@@ -1,13 +1,10 @@
 -- Names, types and values of inputs are UTF-8.
-use Rattle.std.proofs.Common.{◌≡◌, ◌==◌, ◌&&◌, ◌||◌, ℕ, IsTrue, IsUtf8, List, length, nat_le, subst}
-use Rattle.std.specs.List.{list_all}
-use Rattle.elm_base.specs.Letters.{is_name_byte}
+use Rattle.std.proofs.Common.{◌≡◌, ◌&&◌, ℕ, IsUtf8, List, length, nat_le, subst}
 use Rattle.elm_base.specs.declared.event.PortType.{PortType}
 use Rattle.elm_base.specs.declared.event.PortValue.{PortValue}
 use Rattle.elm_base.specs.declared.event.Event.{Event}
 use Rattle.elm_base.specs.declared.event.Event.TheVariants as event
 use Rattle.frame_text.specs.TypeText.{type_text}
-use Rattle.script_lines.specs.Names.{is_input_name}
 use Rattle.port_values.specs.ValueText.{value_text}
 use Rattle.port_texts.specs.PortTexts.{GivenIsPort}
 use Rattle.port_texts.specs.Given.{max_levels}

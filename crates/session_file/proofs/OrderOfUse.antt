@@ -1,5 +1,5 @@
 -- The test of the order of first use, against what it tells.
-use Rattle.std.proofs.Common.{◌≡◌, ◌<◌, ◌≤◌, ◌==◌, ◌↔◌, max, ℕ, zero, suc, Bool, true, false, true≢false, nat_le, leb-false, IsTrue, if◌then◌else◌, List, [], ◌∷◌, Option, Some, None, refl, sym, ◌∙◌, ap, subst, arith}
+use Rattle.std.proofs.Common.{◌≡◌, ◌<◌, ◌≤◌, ◌==◌, max, ℕ, zero, suc, Bool, true, false, true≢false, nat_le, IsTrue, if◌then◌else◌, List, [], ◌∷◌, Option, Some, None, refl, sym, ◌∙◌, ap, arith}
 use Rattle.serde_json.specs.Data.{Data}
 use Rattle.session_form.specs.Reader.{place_in}
 use Rattle.session_file.specs.Sessions.{in_order, is_usable, used_after}

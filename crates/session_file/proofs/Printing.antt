@@ -1,7 +1,7 @@
 -- What is printed of a value of a port's type is UTF-8.
 use Rattle.std.proofs.Common.{◌≡◌, ℕ, Bool, true, false, true≢false, nat_lt, ◌&&◌, IsTrue, IsUtf8, if◌then◌else◌, List, [], ◌∷◌, ◌++◌, map, codes, refl, sym, ◌∙◌, ap, subst}
 use Rattle.std.specs.Fmt.{signed_decimal}
-use Rattle.std.specs.List.{list_all, flat_map}
+use Rattle.std.specs.List.{list_all}
 use Rattle.std.specs.Str.{bytes_eq}
 use Rattle.std.proofs.lemmas.Slice.Eq.{bytes_eq-Decides}
 use Rattle.std.proofs.lemmas.Str.{IsUtf8-append, IsUtf8-nil, IsUtf8-from_is_utf8}
@@ -110,8 +110,7 @@ record_good (y ∷ ys) names is [] h = absurd (true≢false (sym h))
 record_good (y ∷ ys) names is (given ∷ givens) h =
     let first = and_left (bytes_eq y.0 given.0 && is_of y.1.0 given.1) _ h in
     let same = (bytes_eq-Decides y.0 given.0).0 (and_left (bytes_eq y.0 given.0) _ first) in
-    let own = and_left (is_label y.0) _ (and_left (is_label y.0 && is_new y.0 (passed ys)) _ names) in
-    (
+    let own = and_left (is_label y.0) _ (and_left (is_label y.0 && is_new y.0 (passed ys)) _ names) in (
       subst IsUtf8 same (label_good y.0 own),
       y.1.1 (and_left (is_port y.1.0) _ is) given.1 (and_right (bytes_eq y.0 given.0) _ first),
       record_good ys (and_right (is_label y.0 && is_new y.0 (passed ys)) _ names) (and_right (is_port y.1.0) _ is) givens (and_right (bytes_eq y.0 given.0 && is_of y.1.0 given.1) _ h),

@@ -1,5 +1,5 @@
 -- A session that bytes spell may be written again.
-use Rattle.std.proofs.Common.{◌≡◌, ◌≤◌, ◌&&◌, ℕ, zero, suc, Bool, true, false, true≢false, not, IsTrue, if◌then◌else◌, List, [], ◌∷◌, length, All, Some, refl, sym, ◌∙◌, ap, subst}
+use Rattle.std.proofs.Common.{◌≡◌, ◌≤◌, ℕ, zero, suc, Bool, true, false, true≢false, not, if◌then◌else◌, List, [], ◌∷◌, length, Some, refl, sym, ◌∙◌, ap, subst}
 use Rattle.std.specs.Prelude.{slice_get}
 use Rattle.std.specs.Str.{bytes_eq}
 use Rattle.std.proofs.lemmas.Slice.Eq.{bytes_eq-Decides}
@@ -8,12 +8,10 @@ use Rattle.elm_base.specs.declared.event.PortType.{PortType}
 use Rattle.elm_base.specs.declared.event.PortType.TheVariants as port_type
 use Rattle.elm_base.specs.declared.event.Event.{Event}
 use Rattle.elm_base.specs.declared.event.Event.TheVariants as event
-use Rattle.frame_text.specs.TypeText.{type_text}
 use Rattle.port_literals.specs.Ports.{is_new}
 use Rattle.port_texts.specs.PortTexts as text
-use Rattle.session_file.specs.Sessions as spec
-use Rattle.session_file.specs.Sessions.{Inputs, InputIs, EventIs, Each, are_different, Spells, SessionOf}
-use Rattle.session_file.specs.Written.{IsNamed, IsRecorded, HasType, Fits, MayBeWrittenAgain}
+use Rattle.session_file.specs.Sessions.{Inputs, InputIs, EventIs, Each, are_different}
+use Rattle.session_file.specs.Written.{IsNamed, IsRecorded, HasType, MayBeWrittenAgain}
 use Rattle.session_file.proofs.Letters.{and_left, and_right}
 use Rattle.session_file.proofs.Typed.{literal_is_of}
 use Rattle.session_file.proofs.FirstUses.{Every, all_of}

@@ -1,5 +1,5 @@
 -- What is written of a session within the limits spells it.
-use Rattle.std.proofs.Common.{◌≡◌, ◌<◌, ◌≤◌, ◌||◌, max, ℕ, zero, suc, Bool, true, false, IsTrue, IsUtf8, List, [], ◌∷◌, map, length, All, Some, refl, sym, ◌∙◌, ap, ap₂, subst, arith}
+use Rattle.std.proofs.Common.{◌≡◌, ◌≤◌, ◌||◌, max, ℕ, suc, false, IsUtf8, List, [], ◌∷◌, map, All, Some, refl, sym, ◌∙◌, ap, ap₂, subst, arith}
 use Rattle.std.proofs.lemmas.List.{length-map}
 use Rattle.serde_json.specs.Data.{Data, depth, items_depth}
 use Rattle.serde_json.specs.Read.{read, max_depth}
@@ -11,12 +11,11 @@ use Rattle.elm_base.specs.declared.event.Event.TheVariants as event
 use Rattle.frame_text.specs.TypeText.{type_text}
 use Rattle.port_values.specs.ValueText.{value_text}
 use Rattle.port_literals.specs.Laws.{PrintedIsLiteral}
-use Rattle.port_literals.specs.Ports.{nesting}
 use Rattle.port_texts.specs.PortTexts.{GivenNests}
 use Rattle.port_texts.specs.Given.{max_levels}
 use Rattle.session_file.specs.Sessions as spec
 use Rattle.session_file.specs.Sessions.{Inputs, InputIs, EventIs, Each, InputsAre, EventsAre, Spells, SessionOf}
-use Rattle.session_file.specs.Written.{inputs_of, used_by, event_data, input_data, session_data, session_text, IsNamed, IsRecorded, HasType, Fits, IsWithin, SpellsIt}
+use Rattle.session_file.specs.Written.{inputs_of, event_data, input_data, session_data, session_text, IsNamed, IsRecorded, HasType, Fits, IsWithin, SpellsIt}
 use Rattle.session_file.proofs.FirstUses.{Every, every, all_of, OfInput, used_all, used_different, Agrees, there, IsKnown, all_known, order_of}
 
 -- ---- inputs

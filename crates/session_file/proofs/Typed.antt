@@ -1,5 +1,5 @@
 -- The value of a literal is of the literal's type.
-use Rattle.std.proofs.Common.{◌≡◌, ℕ, ℤ, suc, Bool, true, false, true≢false, ◌&&◌, IsTrue, if◌then◌else◌, List, [], ◌∷◌, map, length, replicate, Option, Some, None, refl, sym, ◌∙◌, ap, subst}
+use Rattle.std.proofs.Common.{◌≡◌, ℕ, Bool, true, false, ◌&&◌, if◌then◌else◌, List, [], ◌∷◌, map, length, replicate, Option, Some, None, refl, sym, ◌∙◌, ap}
 use Rattle.std.specs.List.{list_all}
 use Rattle.std.specs.Str.{bytes_eq, is_utf8}
 use Rattle.std.proofs.lemmas.Slice.Eq.{bytes_eq-Decides}
@@ -9,8 +9,8 @@ use Rattle.elm_base.specs.declared.event.PortType.TheFolds.{fold_out-PortType}
 use Rattle.elm_base.specs.declared.event.PortValue.{PortValue, out-PortValue}
 use Rattle.elm_base.specs.declared.event.PortValue.TheOpen as value
 use Rattle.port_values.specs.Values.{is_int, all_pass, fields_pass, passes, test_step, is_of}
-use Rattle.port_values.specs.Leaves.{kept_by, int_of, text_of, number_of, between_quotes}
-use Rattle.port_values.specs.Literals.{Text, Spells, form, brackets, Forms, unit, int, truth, quotes, nothing, just, list, tuple, fields, SpellEach, done, part, SpellFields, no_field, field, IsLiteral}
+use Rattle.port_values.specs.Leaves.{kept_by, number_of, between_quotes}
+use Rattle.port_values.specs.Literals.{Text, Spells, form, brackets, Forms, unit, int, truth, quotes, nothing, just, list, tuple, fields, SpellEach, done, part, SpellFields, no_field, field}
 use Rattle.session_file.specs.Written.{LiteralIsOfItsType}
 use Rattle.session_file.proofs.Letters.{and_left, and_right}
 

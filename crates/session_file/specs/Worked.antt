@@ -1,5 +1,5 @@
 -- Inputs in the order of their first use, and orders of use beside near misses.
-use Rattle.std.specs.Prelude.{◌≡◌, ℕ, [], ◌∷◌, codes, true, false}
+use Rattle.std.specs.Prelude.{◌≡◌, [], ◌∷◌, codes, true, false}
 use Rattle.elm_base.specs.declared.event.PortType.{PortType}
 use Rattle.elm_base.specs.declared.event.PortValue.{PortValue}
 use Rattle.elm_base.specs.declared.event.Event.TheVariants as event
@@ -13,8 +13,8 @@ FirstUses =
     (inputs_of [] ≡ [])
     × (inputs_of (event.Deliver 7 ∷ []) ≡ [])
     × ((port other : PortType) (one two three : PortValue)
-        → inputs_of (event.Input (codes "q") port one ∷ event.Deliver 7 ∷ event.Input (codes "p") other two ∷ event.Input (codes "q") port three ∷ [])
-        ≡ (codes "q", port) ∷ (codes "p", other) ∷ [])
+    → inputs_of (event.Input (codes "q") port one ∷ event.Deliver 7 ∷ event.Input (codes "p") other two ∷ event.Input (codes "q") port three ∷ [])
+    ≡ (codes "q", port) ∷ (codes "p", other) ∷ [])
 
 -- the first input, the second, and a name that none has
 abbrev pub Places : Type 0

@@ -61,11 +61,7 @@ fn written_input(alloc: Global, place: usize, value: &PortValue) -> Result<Value
 }
 
 /// An event as JSON.
-fn event_value(
-    alloc: Global,
-    inputs: &[Used<'_>],
-    event: &Event,
-) -> Result<Value, NoMemory>
+fn event_value(alloc: Global, inputs: &[Used<'_>], event: &Event) -> Result<Value, NoMemory>
     requires { spec.IsRecorded event.now }
     ensures { IfOk result (λ made. view made ≡ spec.event_data inputs.now event.now) }
 {

@@ -35,7 +35,10 @@ fn first_session(alloc: Global, bytes: &[u8]) -> Result<usize, NoMemory> {
 #[test]
 fn no_proper_front_of_a_session_is_one(rt: HostRuntime) -> Result<(), Fail> {
     assert_eq!(rt; first_session(rt.alloc(), CLICKS.as_bytes())?, 122);
-    assert_eq!(rt; outcome(rt.alloc(), CLICKS.as_bytes())?, Seen::Session(3, 3));
+    assert_eq!(rt;
+        outcome(rt.alloc(), CLICKS.as_bytes())?,
+        Seen::Session(3, 3)
+    );
     Ok(())
 }
 
@@ -60,7 +63,10 @@ fn nested(alloc: Global, lists: usize) -> Result<Vec<u8>, NoMemory> {
 
 #[test]
 fn a_text_nests_127_deep(rt: HostRuntime) -> Result<(), Fail> {
-    assert_eq!(rt; outcome(rt.alloc(), &nested(rt.alloc(), 126)?)?, Seen::Session(0, 0));
+    assert_eq!(rt;
+        outcome(rt.alloc(), &nested(rt.alloc(), 126)?)?,
+        Seen::Session(0, 0)
+    );
     assert_eq!(rt; outcome(rt.alloc(), &nested(rt.alloc(), 127)?)?, Seen::Bad);
     Ok(())
 }
@@ -78,7 +84,10 @@ fn named(alloc: Global, bytes: usize) -> Result<Vec<u8>, NoMemory> {
 
 #[test]
 fn a_name_has_255_bytes(rt: HostRuntime) -> Result<(), Fail> {
-    assert_eq!(rt; outcome(rt.alloc(), &named(rt.alloc(), 255)?)?, Seen::Session(0, 1));
+    assert_eq!(rt;
+        outcome(rt.alloc(), &named(rt.alloc(), 255)?)?,
+        Seen::Session(0, 1)
+    );
     assert_eq!(rt; outcome(rt.alloc(), &named(rt.alloc(), 256)?)?, Seen::Bad);
     Ok(())
 }
@@ -113,7 +122,10 @@ fn there_are_261_inputs(rt: HostRuntime) -> Result<(), Fail> {
     let most = of_inputs(rt.alloc(), 261)?;
     assert_eq!(rt; outcome(rt.alloc(), &most)?, Seen::Session(0, 261));
     assert!(rt; rewritten(rt.alloc(), &most)? == most);
-    assert_eq!(rt; outcome(rt.alloc(), &of_inputs(rt.alloc(), 262)?)?, Seen::Bad);
+    assert_eq!(rt;
+        outcome(rt.alloc(), &of_inputs(rt.alloc(), 262)?)?,
+        Seen::Bad
+    );
     Ok(())
 }
 
@@ -130,7 +142,10 @@ fn of_deliveries(alloc: Global, count: u64) -> Result<Vec<u8>, NoMemory> {
 fn there_are_1_000_000_events(rt: HostRuntime) -> Result<(), Fail> {
     let most = of_deliveries(rt.alloc(), 1_000_000)?;
     assert!(rt; rewritten(rt.alloc(), &most)? == most);
-    assert_eq!(rt; outcome(rt.alloc(), &of_deliveries(rt.alloc(), 1_000_001)?)?, Seen::Bad);
+    assert_eq!(rt;
+        outcome(rt.alloc(), &of_deliveries(rt.alloc(), 1_000_001)?)?,
+        Seen::Bad
+    );
     Ok(())
 }
 
@@ -149,7 +164,10 @@ fn of_text(alloc: Global, bytes: usize) -> Result<Vec<u8>, NoMemory> {
 fn printed_values_have_16_777_216_bytes(rt: HostRuntime) -> Result<(), Fail> {
     let most = of_text(rt.alloc(), 16_777_214)?;
     assert!(rt; rewritten(rt.alloc(), &most)? == most);
-    assert_eq!(rt; outcome(rt.alloc(), &of_text(rt.alloc(), 16_777_215)?)?, Seen::Bad);
+    assert_eq!(rt;
+        outcome(rt.alloc(), &of_text(rt.alloc(), 16_777_215)?)?,
+        Seen::Bad
+    );
     Ok(())
 }
 
@@ -165,6 +183,9 @@ fn spaced(alloc: Global, bytes: usize) -> Result<Vec<u8>, NoMemory> {
 fn a_session_has_134_217_728_bytes(rt: HostRuntime) -> Result<(), Fail> {
     let most = spaced(rt.alloc(), 134_217_728)?;
     assert_eq!(rt; outcome(rt.alloc(), &most)?, Seen::Session(3, 3));
-    assert_eq!(rt; outcome(rt.alloc(), &spaced(rt.alloc(), 134_217_729)?)?, Seen::Bad);
+    assert_eq!(rt;
+        outcome(rt.alloc(), &spaced(rt.alloc(), 134_217_729)?)?,
+        Seen::Bad
+    );
     Ok(())
 }

@@ -141,12 +141,7 @@ impl Making {
 }
 
 /// The compact text of a drawn session of so many events.
-fn drawn(
-    alloc: Global,
-    draws: &mut Draws,
-    events: u64,
-    cursor: u64,
-) -> Result<Vec<u8>, NoMemory> {
+fn drawn(alloc: Global, draws: &mut Draws, events: u64, cursor: u64) -> Result<Vec<u8>, NoMemory> {
     let mut making = Making {
         events: Vec::new(alloc),
         inputs: Vec::new(alloc),
