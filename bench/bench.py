@@ -1,13 +1,14 @@
 #!/usr/bin/env python3
 """Times the built programs on inputs of growing size: the best of several runs counts.
 
-usage: bench/bench.py NAME..    NAME: lexer, parser, stack, modules, load, groups, types, arena, prims, lines, reactor
+usage: bench/bench.py NAME..    NAME: lexer, parser, stack, modules, load, groups, types, arena, prims, lines, sessions, reactor
 
 The programs are those that `rt run` leaves in crates/NAME/out. Each row has the input, the best time and the greatest
 memory of a run. Figures of a machine that is busy with other work are worth little.
 """
 import os
 import resource
+import shutil
 import subprocess
 import sys
 import tempfile
@@ -112,6 +113,61 @@ def lines(folder):
     row(f"one line of 1000000000 bytes, {said}", spent, memory, size=1_000_000_000)
 
 
+NODE = """
+const text = require("fs").readFileSync(process.argv[1], "utf8");
+const best = work => {
+  const times = [];
+  for (let run = 0; run < 5; run++) {
+    const begun = process.cpuUsage();
+    work();
+    const spent = process.cpuUsage(begun);
+    times.push((spent.user + spent.system) / 1e6);
+  }
+  return Math.min(...times);
+};
+const value = JSON.parse(text);
+console.log(best(() => JSON.parse(text)), best(() => JSON.stringify(value)));
+"""
+
+
+def node(path):
+    """The least seconds of processor of JSON.parse and of JSON.stringify over a file, in one process; none without Node."""
+    if not shutil.which("node"):
+        return None
+    done = subprocess.run(["node", "-e", NODE, path], capture_output=True, text=True, check=True)
+    return [float(word) for word in done.stdout.split()]
+
+
+def processor(words, path):
+    """The least seconds of processor and the greatest memory of several runs over a file, and what was written."""
+    def one():
+        with open(path, "rb") as text, tempfile.TemporaryFile() as screen:
+            child = subprocess.Popen(words, stdin=text, stdout=screen, cwd=TOP)
+            _, _, usage = os.wait4(child.pid, 0)
+            screen.seek(0)
+            return usage.ru_utime + usage.ru_stime, usage.ru_maxrss * 1024, screen.read().decode()
+    return min(one() for _ in range(RUNS))
+
+
+def sessions(folder):
+    """Reading and writing, each less what stands before it, beside Node's JSON.parse and JSON.stringify of the same text.
+    All in seconds of processor."""
+    import texts
+    for make in [texts.deliveries, texts.input_events]:
+        for count in [250_000, 500_000, 1_000_000]:
+            text = make(count).encode()
+            seconds = []
+            for rounds in [b"0 0\n", b"1 0\n", b"0 1\n"]:
+                spent, memory, said = processor([program("session_bench")], written(folder, [rounds, text]))
+                seconds.append(spent)
+            assert said.strip() == f"0 events read, {len(text)} bytes written"
+            what = f"{make.__doc__}: {count}, {len(text)} bytes"
+            row(f"{what}, read", seconds[1] - seconds[0], memory, size=len(text))
+            row(f"{what}, written", seconds[2] - seconds[1], memory, size=len(text))
+            if of_node := node(written(folder, text)):
+                print(f"Node: parsed {of_node[0] * 1000:.2f} ms, printed {of_node[1] * 1000:.2f} ms")
+
+
 def reactor(folder):
     words = [program("reactor"), "run", "examples/first"]
     for count in [250_000, 500_000, 1_000_000]:
@@ -138,6 +194,7 @@ BENCHES = {
     "prims": by_numbers("prims_bench", [(100000, 0), (200000, 0), (1000000, 0), (0, 1000000), (0, 2000000), (0, 4000000)]),
     "arena": by_numbers("arena_bench", [(50000, 0), (100000, 0), (0, 500000), (0, 1000000)]),
     "lines": lines,
+    "sessions": sessions,
     "reactor": reactor,
 }
 

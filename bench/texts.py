@@ -81,3 +81,20 @@ def module(size):
 def chains(count):
     """So many definitions, each a chain of 100 operators."""
     return "".join(f"d{turn} =" + " a +" * 100 + " b\n" for turn in range(count))
+
+
+def session(events, inputs):
+    return f'{{"cursor":0,"events":[{",".join(events)}],"format":"reactor-session","inputs":[{inputs}],"version":1}}'
+
+
+def deliveries(count):
+    """deliveries"""
+    return session([f"[{number * 7919 % 1_000_000_000}]" for number in range(count)], "")
+
+
+def input_events(count):
+    """input events"""
+    values = ["()", "({0},{1})", "{0}", r'\"key {1}\"']
+    inputs = '["Mouse.clicks","()"],["Mouse.position","(Int,Int)"],["Window.width","Int"],["p","String"]'
+    events = [f'[{turn % 4},"{values[turn % 4].format(turn % 1000, turn % 777)}"]' for turn in range(count)]
+    return session(events, inputs)

@@ -1,4 +1,15 @@
+pub mod Again
+pub mod Describing
 pub mod Eaches
+pub mod Few
+pub mod FirstUses
+pub mod Letters
+pub mod Naming
+pub mod OrderOfUse
+pub mod Printing
+pub mod Rewriting
+pub mod Spelling
 pub mod Telling
+pub mod Typed
 pub mod Unique
 pub mod Whole

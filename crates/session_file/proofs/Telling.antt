@@ -1,15 +1,14 @@
 -- What calls answer, carried over to another form.
-use Rattle.std.proofs.Common.{◌≡◌, ◌≢◌, ℕ, List, Result, Ok, Err, refl, sym, ◌∙◌, ap, subst}
+use Rattle.std.proofs.Common.{◌≡◌, ℕ, List, Result, Ok, Err, sym, ◌∙◌, ap, subst}
 use Rattle.serde_json.specs.Data.{Data}
 use Rattle.elm_base.specs.declared.memory.Halt.{Halt}
-use Rattle.elm_base.specs.declared.memory.Halt.TheVariants as halt
 use Rattle.elm_base.specs.declared.event.Event.{Event}
 use Rattle.elm_base.specs.declared.event.Event.TheVariants as event
 use Rattle.session_form.specs.Form as form
 use Rattle.session_file.specs.declared.session.BadSession.{BadSession}
 use Rattle.session_file.specs.Sessions as spec
 use Rattle.session_file.specs.Sessions.{Inputs}
-use Rattle.session_file.specs.Answers.{Answers, AnswersAs}
+use Rattle.session_file.specs.Answers.{Answers}
 
 carried : {A : Type 0} (P Q : A → Type 0) → ((a : A) → P a → Q a) → ((a : A) → Q a → P a) → (r : Result A (Halt BadSession)) → Answers P r → Answers Q r
 carried P Q onward back (Ok found) h = onward found h

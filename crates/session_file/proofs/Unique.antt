@@ -1,10 +1,9 @@
 -- One session at most: what is written tells it.
-use Rattle.std.proofs.Common.{◌≡◌, ◌<◌, ◌≤◌, ℕ, zero, suc, All, IsTrue, List, [], ◌∷◌, length, get_or, Some, None, refl, sym, ◌∙◌, ap, ap₂, subst, arith, true≢false, leb-false}
+use Rattle.std.proofs.Common.{◌≡◌, ◌≤◌, ℕ, IsTrue, List, length, Some, sym, ◌∙◌, ap, ap₂, subst, arith, true≢false, leb-false}
 use Rattle.std.specs.Prelude.{slice_get, nat_le, Bool, true, false}
 use Rattle.std.proofs.lemmas.Option.{slice_get_within, get_or_from_slice_get}
 use Rattle.serde_json.specs.Data.{Data}
 use Rattle.elm_base.specs.declared.event.PortType.{PortType}
-use Rattle.elm_base.specs.declared.event.PortValue.{PortValue}
 use Rattle.elm_base.specs.declared.event.Event.{Event}
 use Rattle.elm_base.specs.declared.event.Event.TheVariants as event
 use Rattle.port_values.specs.Literals.{IsLiteral}
@@ -13,7 +12,6 @@ use Rattle.port_literals.specs.Laws.{OneValue}
 use Rattle.port_texts.specs.PortTexts.{OneType, GivenIsPort}
 use Rattle.port_texts.specs.PortTexts as text
 use Rattle.session_form.specs.Form as form
-use Rattle.session_form.specs.Laws.{OneContent}
 use Rattle.session_file.specs.Sessions as spec
 use Rattle.session_file.specs.Sessions.{Inputs, ArePorts, InputIs, EventIs, Each}
 use Rattle.session_file.proofs.Eaches.{one_list}

@@ -1,5 +1,5 @@
 -- What a session has to be, from what was read of it.
-use Rattle.std.proofs.Common.{◌≡◌, ◌≢◌, ◌<◌, ◌≤◌, ℕ, zero, suc, IsTrue, IsUtf8, List, [], ◌∷◌, map, length, Some, Ok, Err, Result, refl, sym, ◌∙◌, ap, ap₂, subst, arith}
+use Rattle.std.proofs.Common.{◌≡◌, ◌≤◌, ℕ, zero, suc, IsUtf8, List, [], ◌∷◌, map, length, Some, Ok, Err, Result, sym, ◌∙◌, subst, arith}
 use Rattle.std.proofs.lemmas.List.{length-map}
 use Rattle.serde_json.specs.Data.{Data}
 use Rattle.serde_json.specs.Read.{read}

@@ -1,5 +1,5 @@
 -- What calls answer that read a part of a session.
-use Rattle.std.specs.Prelude.{◌≡◌, ◌≢◌, Result, Ok, Err}
+use Rattle.std.specs.Prelude.{◌≢◌, Result, Ok, Err}
 use Rattle.elm_base.specs.declared.memory.Halt.{Halt}
 use Rattle.elm_base.specs.declared.memory.Halt.TheVariants as halt
 use Rattle.session_file.specs.declared.session.BadSession.{BadSession}

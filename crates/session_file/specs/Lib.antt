@@ -1,2 +1,5 @@
 pub mod Sessions
 pub mod Answers
+pub mod Order
+pub mod Written
+pub mod Worked

@@ -1,24 +1,16 @@
 //! Texts read as sessions, beside near misses.
-use elm_base::{Halt, NoMemory};
-use session_file::read;
+use crate::more_rows::MORE_ROWS;
+use crate::rewriting::{is_same_again, outcome};
+use elm_base::NoMemory;
 use std::alloc::Global;
-use std::process::Abort;
 use std::test::Fail;
 
 /// What a text is.
 #[derive(Clone, Copy, Debug, PartialEq, Eq)]
-enum Seen {
+pub enum Seen {
     /// A session: its cursor, and how many events it has.
     Session(u32, usize),
     Bad,
-}
-
-fn outcome(alloc: Global, text: &str) -> Result<Seen, NoMemory> {
-    match read(alloc, text.as_bytes()) {
-        Ok(session) => Ok(Seen::Session(session.cursor, session.events.len())),
-        Err(Halt::Because(_)) => Ok(Seen::Bad),
-        Err(Halt::NoMemory) => Err(NoMemory),
-    }
 }
 
 const ROWS: [(&str, Seen); 38] = [
@@ -167,12 +159,36 @@ const ROWS: [(&str, Seen); 38] = [
     ),
 ];
 
+/// The first text that is something else than wanted.
+fn first_wrong(alloc: Global, rows: &[(&'static str, Seen)]) -> Result<&'static str, NoMemory> {
+    for (text, wanted) in rows {
+        if outcome(alloc, text.as_bytes())? != *wanted {
+            return Ok(*text);
+        }
+    }
+    Ok("none is wrong")
+}
+
 #[test]
 fn texts_are_sessions_or_none(rt: HostRuntime) -> Result<(), Fail> {
-    let alloc = rt.alloc();
-    for (text, wanted) in &ROWS {
-        let found = outcome(alloc, text)?;
-        assert_eq!(rt; found, *wanted, "{text}");
+    assert_eq!(rt; first_wrong(rt.alloc(), &ROWS)?, "none is wrong");
+    assert_eq!(rt; first_wrong(rt.alloc(), &MORE_ROWS)?, "none is wrong");
+    Ok(())
+}
+
+/// The first text that is a session, and isn't the same session when it is written and read.
+fn first_changed(alloc: Global, rows: &[(&'static str, Seen)]) -> Result<&'static str, NoMemory> {
+    for (text, wanted) in rows {
+        if *wanted != Seen::Bad && !is_same_again(alloc, text.as_bytes())? {
+            return Ok(*text);
+        }
     }
+    Ok("none is changed")
+}
+
+#[test]
+fn sessions_are_written_and_read_again(rt: HostRuntime) -> Result<(), Fail> {
+    assert_eq!(rt; first_changed(rt.alloc(), &ROWS)?, "none is changed");
+    assert_eq!(rt; first_changed(rt.alloc(), &MORE_ROWS)?, "none is changed");
     Ok(())
 }

@@ -1,8 +1,6 @@
-use Rattle.std.proofs.Common.{subst}
 use Rattle.std.proofs.lemmas.Result.{err_from_is_err_and}
 use Rattle.serde_json.specs.View.{view}
 use Rattle.session_file.specs.Sessions as spec
-use Rattle.session_file.specs.Answers.{AnswersAs}
 use Rattle.session_file.proofs.Eaches.{refused_at, one_more}
 use Rattle.session_file.proofs.events.events_in.Goals as goal
 

@@ -1,4 +1,4 @@
-use Rattle.std.proofs.Common.{sym, ◌∙◌, ap, subst}
+use Rattle.std.proofs.Common.{sym, ◌∙◌, ap}
 use Rattle.std.specs.Prelude.{nat_le, map}
 use Rattle.serde_json.specs.View.{view}
 use Rattle.session_file.specs.Sessions as spec

@@ -1,4 +1,4 @@
-use Rattle.std.proofs.Common.{◌≡◌, map, take}
+use Rattle.std.proofs.Common.{map, take}
 use Rattle.serde_json.specs.View.{view}
 use Rattle.session_file.specs.Sessions as spec
 use Rattle.session_file.proofs.inputs.inputs_in.Given as goal

@@ -1,8 +1,6 @@
-use Rattle.std.proofs.Common.{ℕ, List, arith}
+use Rattle.std.proofs.Common.{arith}
 use Rattle.serde_json.specs.View.{view}
-use Rattle.elm_base.specs.declared.event.Event.{Event}
 use Rattle.session_file.specs.declared.session.Session.{Session}
-use Rattle.session_file.specs.Sessions as spec
 use Rattle.session_file.proofs.Whole.{session_of}
 use Rattle.session_file.proofs.reading.read.Goals as goal
 
