@@ -1,5 +1,5 @@
 -- A term behind its parts, and a tree that is made of theirs.
-use Rattle.std.proofs.Common.{◌≡◌, ℕ, zero, suc, arith, ◌+◌, ◌<◌, ◌≤◌, List, [], ◌∷◌, ◌++◌, length, map, take, drop, get_or, Result, Ok, Err, IfOk, refl, sym, ap, ◌∙◌, subst}
+use Rattle.std.proofs.Common.{◌≡◌, ℕ, zero, suc, arith, ◌<◌, List, [], ◌∷◌, ◌++◌, length, map, drop, get_or, Result, Ok, Err, IfOk, refl, ap, ◌∙◌, subst}
 use Rattle.elm_base.specs.declared.memory.NoMemory.{NoMemory}
 use Rattle.elm_base.specs.declared.term.Term.{Term}
 use Rattle.elm_base.specs.declared.term.Term.TheVariants as term

@@ -4,7 +4,7 @@ use Rattle.elm_base.specs.declared.term.TermPattern.{TermPattern}
 use Rattle.elm_base.specs.declared.term.TermPattern.TheVariants as t
 use Rattle.elm_base.specs.declared.term.TermPattern.TheOpen as term
 use Rattle.elm_base.specs.declared.term.TermPattern.TheFolds.{fold-roll-TermPattern}
-use Rattle.elm_meaning.specs.Patterns.{Pattern, Patterns, AndPattern, patterns_of, pattern_step, pattern_of}
+use Rattle.elm_meaning.specs.Patterns.{Pattern, AndPattern, patterns_of, pattern_step, pattern_of}
 use Rattle.typing_rules.specs.CorePatterns.{CorePattern, erased_pattern, erased_patterns}
 use Rattle.plain_form.specs.PlainForm.{patterns, listed}
 use Rattle.core_trees.specs.declared.pattern.PatternTree.{PatternTree}

@@ -8,7 +8,7 @@ use Rattle.elm_base.specs.declared.term.Code.{Code}
 use Rattle.elm_meaning.specs.Lowered.{AllBelow, places_of, places_of_all, times, top_places}
 use Rattle.core_definitions.specs.declared.one.CoreDefinition.{CoreDefinition}
 use Rattle.code_lower.specs.Laying.{Lowers}
-use Rattle.code_lower.specs.Whole.{IsSoFar, Grows, IsLaidOut, IsCodeOf, all_of, tree_of_definition, name_of_definition, name_of_top}
+use Rattle.code_lower.specs.Whole.{IsSoFar, Grows, IsCodeOf, all_of, tree_of_definition, name_of_definition, name_of_top}
 use Rattle.code_lower.proofs.Laying.{nothing_yet, joins, relabelled, below_front, times_append}
 
 append_all : {A : Type 0} (xs ys zs : List A) → (xs ++ ys) ++ zs ≡ xs ++ (ys ++ zs)

@@ -1,10 +1,10 @@
 -- Each form of a tree, from its parts.
-use Rattle.std.proofs.Common.{◌≡◌, ℕ, zero, suc, ◌+◌, Option, Some, None, List, [], ◌∷◌, ◌++◌, length, map, refl, sym, ap, ap₂, ◌∙◌, subst, arith}
+use Rattle.std.proofs.Common.{◌≡◌, ℕ, suc, Option, Some, None, List, [], ◌∷◌, ◌++◌, length, map, refl, sym, ap, ap₂, ◌∙◌, arith}
 use Rattle.elm_base.specs.declared.term.Term.{Term}
 use Rattle.elm_base.specs.declared.term.Term.TheVariants as term
 use Rattle.elm_base.specs.declared.term.TermPattern.{TermPattern}
 use Rattle.elm_meaning.specs.Patterns.{Pattern, pattern_of}
-use Rattle.elm_meaning.specs.Values.{Tree, Trees, FieldTrees, GuardedTrees, Branches, Group as TreeGroup, NoTree, Done, TupleTree, ListTree, RecordTree, NoTrees, AndTree, NoFieldTrees, AndFieldTree, NoGuards, AndGuard, NoBranches, AndBranch, NoFunctions, AndFunction}
+use Rattle.elm_meaning.specs.Values.{Tree, Trees, FieldTrees, GuardedTrees, Branches, Group as TreeGroup, NoTree, Done, TupleTree, ListTree, RecordTree, NoTrees, AndTree, NoFieldTrees, AndFieldTree, NoGuards, AndGuard, NoBranches, AndBranch, NoFunctions}
 use Rattle.elm_meaning.specs.Terms.{tree_at, trees_at, fields_at, guards_at, branches_at, function_before, functions_at, group_tree, let_tree, trees_of}
 use Rattle.elm_meaning.specs.Lowered.{places_of_pairs, places_of_branches, places_of_fields, places_of_groups}
 use Rattle.core_trees.specs.declared.pattern.PatternTree.{PatternTree}

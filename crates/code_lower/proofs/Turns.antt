@@ -1,11 +1,10 @@
 -- Loops over parts: one part more.
-use Rattle.std.proofs.Common.{◌≡◌, ℕ, zero, suc, ◌+◌, ◌<◌, ◌≤◌, List, [], ◌∷◌, ◌++◌, length, map, take, get_or, refl, sym, ap, ◌∙◌, subst, arith, add-one}
+use Rattle.std.proofs.Common.{◌≡◌, ℕ, zero, suc, ◌+◌, ◌<◌, ◌≤◌, List, [], ◌∷◌, ◌++◌, length, map, take, get_or, refl, sym, ap, ◌∙◌, arith, add-one}
 use Rattle.std.proofs.Math.Seq.{take-suc}
 use Rattle.elm_base.specs.declared.term.Term.{Term}
 use Rattle.elm_base.specs.declared.term.Term.TheVariants as term
 use Rattle.elm_base.specs.declared.term.TermPattern.{TermPattern}
 use Rattle.elm_meaning.specs.Values.{Tree, NoTree}
-use Rattle.elm_meaning.specs.Terms.{tree_at, trees_of}
 use Rattle.elm_meaning.specs.Lowered.{places_of_pairs, places_of_branches, places_of_groups}
 use Rattle.core_trees.specs.declared.tree.CoreTree.{CoreTree}
 use Rattle.core_trees.specs.declared.tree.LetGroup.{LetGroup}

@@ -19,7 +19,7 @@ use Rattle.core_trees.specs.declared.tree.LetGroup.TheVariants as g
 use Rattle.core_trees.specs.PatternReading.{pattern_of}
 use Rattle.core_trees.specs.Reading.{Function, Group, Value, Functions, functions, function_of, group_of, core_step, function_step, group_step, core_of, groups_before as groups_as}
 use Rattle.code_lower.specs.Lowered.{lowered, lowered_all, lowered_fields, lowered_guards, lowered_branches}
-use Rattle.code_lower.specs.Laying.{tree_for, pattern_for, applied_layer, applied_for, built_layer, built_for, choice_layer, choice_for, group_before, lambdas_for, lambda_for, calls_for, trees_for, field_trees_for, guards_for, branches_for, groups_before, group_members, function_tree, function_name, members_in, members_for, trees_in, patterns_in}
+use Rattle.code_lower.specs.Laying.{tree_for, pattern_for, applied_layer, applied_for, built_layer, built_for, choice_layer, choice_for, group_before, lambdas_for, calls_for, trees_for, field_trees_for, guards_for, branches_for, groups_before, group_members, function_tree, function_name, members_in, members_for, trees_in, patterns_in}
 use Rattle.code_lower.proofs.Outs.{out_lambda, out_call, out_guards, out_case, out_let, out_tuple, out_list, out_fields, out_update, out_extend}
 
 lambdas_are : (ps : List PatternTree) (e : Core) → lowered (lambdas (map pattern_of ps) e) ≡ lambdas_for ps (lowered e)

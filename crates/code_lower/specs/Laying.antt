@@ -14,7 +14,7 @@ use Rattle.core_trees.specs.declared.tree.LetFunction.{LetFunction}
 use Rattle.core_trees.specs.declared.tree.LetGroup.{LetGroup}
 use Rattle.core_trees.specs.PatternReading.{pattern_of as core_pattern_of}
 use Rattle.core_trees.specs.Reading.{Group, Value, Functions, core_of, group_of}
-use Rattle.typing_rules.specs.CorePatterns.{CorePattern, erased_pattern}
+use Rattle.typing_rules.specs.CorePatterns.{erased_pattern}
 use Rattle.typing_rules.specs.Core.{CoreGroup, NoCoreFunctions, AndCoreFunction}
 use Rattle.code_lower.specs.Lowered.{let_value, lowered, lowered_group}
 

@@ -1,5 +1,4 @@
 -- What evaluation keeps of a plain term, as code has it: a name with a lambda on its right side is a function of a group.
-use Rattle.std.specs.Prelude.{ℕ, Option, Some, None}
 use Rattle.elm_meaning.specs.Patterns.{Pattern}
 use Rattle.elm_meaning.specs.NativeTable.{native_at}
 use Rattle.elm_meaning.specs.Terms.{literal_value, native_tree, constructor_value}

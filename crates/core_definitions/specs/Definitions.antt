@@ -1,5 +1,5 @@
 -- The definitions of a project in their plain form, group by group.
-use Rattle.std.specs.Prelude.{◌≡◌, ℕ, suc, ◌+◌, Bool, false, if◌then◌else◌, Option, Some, None, List, [], ◌∷◌, map, length, option_map, bytes_eq}
+use Rattle.std.specs.Prelude.{◌≡◌, ℕ, suc, ◌+◌, Bool, false, if◌then◌else◌, Option, Some, None, List, [], ◌∷◌, length, option_map, bytes_eq}
 use Rattle.elm_base.specs.declared.token.At.{At}
 use Rattle.elm_base.specs.declared.project.Group.{Group}
 use Rattle.elm_base.specs.declared.project.Meaning.{Meaning}

@@ -1,4 +1,4 @@
-use Rattle.std.proofs.Common.{◌≡◌, ◌∙◌, ◌∷◌, [], sym, ap, refl, rules}
+use Rattle.std.proofs.Common.{◌∙◌, ◌∷◌, [], sym, ap, refl, rules}
 use Rattle.elm_meaning.specs.Values.{Done, TupleTree, NoTrees}
 use Rattle.elm_meaning.specs.Terms.{literal_value, constructor_value}
 use Rattle.elm_base.specs.declared.term.Term.TheVariants as term

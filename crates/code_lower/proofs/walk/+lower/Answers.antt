@@ -1,4 +1,4 @@
-use Rattle.std.proofs.Common.{◌≡◌, ◌∙◌, IfOk, ◌∷◌, [], List, map, ap, sym, subst, refl, rules}
+use Rattle.std.proofs.Common.{◌≡◌, ◌∙◌, IfOk, ◌∷◌, [], ap, sym, subst, refl, rules}
 use Rattle.elm_meaning.specs.Lowered.{places_of_branches}
 use Rattle.elm_meaning.specs.Patterns.{pattern_of}
 use Rattle.code_lower.specs.Laying as spec

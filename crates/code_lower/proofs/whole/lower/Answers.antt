@@ -1,4 +1,4 @@
-use Rattle.std.proofs.Common.{ap, subst}
+use Rattle.std.proofs.Common.{subst}
 use Rattle.code_lower.specs.Whole.{IsSoFar, all_of}
 use Rattle.code_lower.proofs.Program.{group_turn, is_code, take_all}
 use Rattle.code_lower.proofs.whole.lower.Goals as goal
