@@ -8,6 +8,7 @@ pub mod Naming
 pub mod OrderOfUse
 pub mod Printing
 pub mod Rewriting
+pub mod Size
 pub mod Spelling
 pub mod Telling
 pub mod Typed

@@ -17,13 +17,9 @@ use Rattle.session_file.specs.Sessions as spec
 use Rattle.session_file.specs.Sessions.{Inputs, InputIs, EventIs, Each, InputsAre, EventsAre, Spells, SessionOf}
 use Rattle.session_file.specs.Written.{inputs_of, event_data, input_data, session_data, session_text, IsNamed, IsRecorded, HasType, Fits, IsWithin, SpellsIt}
 use Rattle.session_file.proofs.FirstUses.{Every, every, all_of, OfInput, used_all, used_different, Agrees, there, IsKnown, all_known, order_of}
+use Rattle.session_file.proofs.Size.{recorded_named, always_short}
 
 -- ---- inputs
-
-recorded_named : (events : List Event) → Every IsRecorded events → Every (OfInput IsNamed) events
-recorded_named [] h = tt
-recorded_named (event.Deliver number ∷ events) h = (tt, recorded_named events h.1)
-recorded_named (event.Input name port value ∷ events) h = (h.0.0, recorded_named events h.1)
 
 pub inputs_named : (events : List Event) → All IsRecorded events → All IsNamed (inputs_of events)
 inputs_named events h = all_of IsNamed (inputs_of events) (used_all IsNamed [] events (recorded_named events (every IsRecorded events h)) tt)
@@ -67,7 +63,7 @@ module _ (printed : PrintedIsLiteral) (nests : GivenNests) (types : List ℕ →
 
 -- ---- the session
 
-spelled : PrintedIsLiteral → GivenNests → (cursor : ℕ) (events : List Event) → Fits cursor events → IsWithin cursor events → Spells (session_data cursor events) cursor events
+spelled : PrintedIsLiteral → GivenNests → (cursor : ℕ) (events : List Event) → Fits cursor events → IsWithin events → Spells (session_data cursor events) cursor events
 spelled printed nests cursor events fits within =
     let inputs = inputs_of events in
     let recorded = every IsRecorded events fits.recorded in
@@ -134,7 +130,7 @@ not_deep cursor events = few_levels _ _ (events_flat (inputs_of events) events) 
 pub spells_it : PrintedIsLiteral → GivenNests → (cursor : ℕ) (events : List Event) → Fits cursor events → IsUtf8 (session_text cursor events)
     → read (session_text cursor events) ≡ Some (session_data cursor events) → SpellsIt cursor events
 spells_it printed nests cursor events fits utf8 json within = record {
-  short = within.short;
+  short = always_short cursor events fits within.few within.many within.printed;
   utf8 = utf8;
   found = session_data cursor events;
   json = json;

@@ -20,7 +20,7 @@ use Rattle.port_texts.specs.PortTexts as text
 use Rattle.session_form.specs.Form as form
 use Rattle.session_file.specs.declared.session.BadSession.{BadSession}
 use Rattle.session_file.specs.Answers.{Answers}
-use Rattle.session_file.specs.Sessions.{Inputs, max_number, max_inputs, max_events, max_printed, max_bytes, printed_size, SessionOf}
+use Rattle.session_file.specs.Sessions.{Inputs, max_number, max_inputs, max_events, max_printed, printed_size, SessionOf}
 
 -- ---- inputs, in the order of their first use
 
@@ -87,16 +87,15 @@ pub record Fits (cursor : ℕ) (events : List Event) : Type 0 where
   pub agree : All (HasType types) events
   pub within : cursor ≤ length events
 
--- the limits of a session
-pub record IsWithin (cursor : ℕ) (events : List Event) : Type 0 where
+-- The limits of a session, but for that on its bytes: what is written within these is never too long.
+pub record IsWithin (events : List Event) : Type 0 where
   pub few : length (inputs_of events) ≤ max_inputs
   pub many : length events ≤ max_events
   pub printed : printed_size events ≤ max_printed
-  pub short : length (session_text cursor events) ≤ max_bytes
 
 -- what is written of a session within the limits spells it
 abbrev pub SpellsIt : ℕ → List Event → Type 0
-SpellsIt cursor events = IsWithin cursor events → SessionOf (session_text cursor events) cursor events
+SpellsIt cursor events = IsWithin events → SessionOf (session_text cursor events) cursor events
 
 -- ---- what is written is read again
 
