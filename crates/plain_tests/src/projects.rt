@@ -57,16 +57,13 @@ fn put_group(text: &mut String, group: &[CoreDefinition]) -> Result<(), AllocErr
     text.push_str(";")
 }
 
-/// How many groups of one definition the library has.
-const LIBRARY_GROUPS: usize = 3;
-
+/// Of the library's own definitions there are three, each in a group.
 fn put_groups(text: &mut String, groups: &[Items<CoreDefinition>]) -> Result<(), AllocError> {
-    let mut place: usize = 0;
-    for group in groups {
-        if place >= LIBRARY_GROUPS {
-            put_group(text, group.as_slice())?;
-        }
-        place += 1;
+    let [_, _, _, own @ ..] = groups else {
+        return Ok(());
+    };
+    for group in own {
+        put_group(text, group.as_slice())?;
     }
     Ok(())
 }
