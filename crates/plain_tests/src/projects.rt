@@ -1,7 +1,8 @@
 //! Projects as texts, and the plain forms of what they define.
 use crate::shown::{put_core, put_type};
+use code_lower::lower;
 use core_definitions::{CoreDefinition, definitions};
-use elm_base::{Project, Resolved};
+use elm_base::{Code, Project, Resolved};
 use elm_library::{Source, read};
 use layout_lexer::tokens;
 use module_parser::{fix, module};
@@ -79,4 +80,13 @@ pub fn put_form(alloc: Global, given: &str, text: &mut String) -> Result<(), Fai
     put_groups(text, groups.as_slice())?;
     text.push_str("\n")?;
     Ok(())
+}
+
+/// The code of this module's definitions and the library's.
+pub fn code_of(alloc: Global, given: &str) -> Result<Code, Fail> {
+    let whole = resolved(alloc, given)?;
+    let decls = declare(alloc, &whole)?;
+    let groups = definitions(alloc, &whole, &decls)?;
+    let code = lower(alloc, groups.as_slice())?;
+    Ok(code)
 }

@@ -6,11 +6,11 @@ use std::alloc::AllocError;
 use std::fmt::Write;
 use std::str;
 
-fn put_name(text: &mut String, name: &Name) -> Result<(), AllocError> {
+pub fn put_name(text: &mut String, name: &Name) -> Result<(), AllocError> {
     text.push_str(str::from_utf8(name.bytes()).unwrap_or("?"))
 }
 
-fn put_literal(text: &mut String, value: &Literal) -> Result<(), AllocError> {
+pub fn put_literal(text: &mut String, value: &Literal) -> Result<(), AllocError> {
     match value {
         Literal::Int(number) => write!(text, "{number}"),
         Literal::Char(code) => write!(text, "'{code}'"),
